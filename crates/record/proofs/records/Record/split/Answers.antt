@@ -1,0 +1,9 @@
+use Prim.Native.Nat.{_≤_}
+use mathlib.Core.Path.{refl}
+use lib.ListN.{length}
+use borrow.Author.Needs.{needs}
+use Rattle.std.proofs.shelf.Lists.{take-rest}
+use Rattle.record.proofs.records.Record.split.Needs as need
+
+pub returns : need.returns
+returns c = (search needs, search needs, take-rest (c .args .bytes .now) 8)

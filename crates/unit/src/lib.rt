@@ -1,0 +1,9 @@
+//! Units: what computes the outcome of an operation on two words.
+pub use outcome::Outcome;
+pub use traits::Unit;
+pub use whole::WholeNumber;
+pub use whole::WholeUnit;
+
+mod outcome;
+mod traits;
+mod whole;
