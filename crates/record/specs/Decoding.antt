@@ -93,11 +93,11 @@ builtOf r =
     (cond (eqb (r .operation) 6) (Store (register (r .first)) (register (r .second)) (r .literal))
     (computingOf r)))))))
 
-abbrev judged : Option RecordFault → Instruction → Result Instruction RecordFault
+abbrev pub judged : Option RecordFault → Instruction → Result Instruction RecordFault
 judged None i = Ok i
 judged (Some fault) i = Err fault
 
-abbrev shaped : Option Shape → Record → Result Instruction RecordFault
+abbrev pub shaped : Option Shape → Record → Result Instruction RecordFault
 shaped None r = Err UnknownOperation
 shaped (Some s) r = judged (faultOf s r) (builtOf r)
 

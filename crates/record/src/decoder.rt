@@ -2,6 +2,7 @@ ghost use mathlib.Core.Path.{_≡_};
 ghost use Prim.Native.Nat.{_<_, _≤_};
 ghost use lib.ListN.{length, drop};
 ghost use Rattle.std.specs.Options.{Cases};
+ghost use Rattle.record.specs.Encoding.{DecodesExactly};
 ghost use Rattle.record.specs.Decoding.{recordOf, shapeOf, admits, spared, faultOf, computingOf, builtOf, instructionOf};
 use crate::faults::Field;
 use crate::faults::RecordFault;
@@ -184,7 +185,8 @@ impl Record {
 
     /// The instruction that the record is, or its first fault.
     pub fn instruction(self) -> Result<Instruction, RecordFault>
-        ensures { λ r. ⌜ r ≡ instructionOf self ⌝ }
+        ensures value { λ r. ⌜ r ≡ instructionOf self ⌝ }
+        ensures exact { λ _. ⌜ ((i : Instruction) → DecodesExactly self i) ⌝ }
     {
         let Some(shape) = shape_of(self.operation, self.second) else {
             return Err(RecordFault::UnknownOperation);

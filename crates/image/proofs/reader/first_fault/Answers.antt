@@ -12,7 +12,7 @@ pub returns-in-Err : need.returns-in-Err
 returns-in-Err c =
     let k = c .loop-index .index in
     let left : 0 < c .args .count - c .loop-index .index = omega arith in
-    let e = sym (c .in-Err .ensures tt ∙ ap instructionOf (c .in-Some .ensures tt .1)) in
+    let e = sym (c .in-Err .ensures tt .value ∙ ap instructionOf (c .in-Some .ensures tt .1)) in
     sym (fault-now (c .args .count - k) k (c .loop-index .rest .now) (c .in-Err .fault) left e) ∙ c .loop-index .inv .1
 
 pub loop-index-again : need.loop-index-again
@@ -22,7 +22,7 @@ loop-index-again c =
     let left : 0 < c .args .count - c .loop-index .index = omega arith in
     let less : c .args .count - (c .loop-index .index + 1) ≡ c .args .count - c .loop-index .index - 1 = omega arith in
     let more = c .in-Some .ensures tt .2 in
-    let e = sym (c .in-Ok .ensures tt ∙ ap instructionOf (c .in-Some .ensures tt .1)) in
+    let e = sym (c .in-Ok .ensures tt .value ∙ ap instructionOf (c .in-Some .ensures tt .1)) in
     let long : length (c .in-Some .more .now) ≡ 8 * (c .args .count - (c .loop-index .index + 1)) = omega (arith, ap length more, length-drop 8 bs, c .loop-index .inv .0) in (
       long,
       ap (λ (n : ℕ). faultIn n (k + 1) (c .in-Some .more .now)) less

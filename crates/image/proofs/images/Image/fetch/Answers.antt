@@ -18,7 +18,7 @@ returns-in-Some c =
     let bs = c .args .self .now .parts .records .now in
     let p = c .args .place in
     c .ok .ensures .value
-    ∙ ap okPart (c .instruction .ensures)
+    ∙ ap okPart (c .instruction .ensures .value)
     ∙ ap (λ (r : Record). okPart (instructionOf r)) (c .in-Some .ensures tt .1)
     ∙ ap (λ (xs : List ℕ). okPart (instructionOf (recordOf xs))) (take-rest bs (8 * p))
     ∙ program-at (c .args .self .now .parts .head .count) p bs (omega arith) (c .args .self .now .read .3)
