@@ -1,5 +1,7 @@
--- The numbers of a retirement record, after its place: kind, target and word.
+-- The numbers of a retirement record: place, kind, target and word.
 use Prim.Native.Nat.{ℕ}
+use mathlib.Core.List.{List, [], _∷_}
+use Rattle.effect.specs.declared.actions.Retirement.{Retirement}
 use Rattle.effect.specs.declared.actions.Action.{Action}
 use Rattle.effect.specs.declared.actions.Action.the-variants.{Nothing, SetRegister, StoreWord, Trap, Halt}
 
@@ -23,3 +25,7 @@ wordOf (SetRegister register word) = word
 wordOf (StoreWord address word) = word
 wordOf (Trap word) = word
 wordOf Halt = 0
+
+-- the numbers of a record, in the order of its line
+abbrev pub numbersOf : Retirement → List ℕ
+numbersOf r = r .place ∷ (kindOf (r .action) ∷ (targetOf (r .action) ∷ (wordOf (r .action) ∷ [])))

@@ -8,6 +8,7 @@ pub use actions::Retirement;
 pub use actions::RetirementDebug;
 pub use actions::RetirementPartialEq;
 pub use actions::Sources;
+pub use retirements::RetirementLine;
 
 mod actions;
 mod retirements;

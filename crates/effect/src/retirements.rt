@@ -1,7 +1,10 @@
 ghost use mathlib.Core.Path.{_≡_};
-ghost use Rattle.effect.specs.Retirements.{kindOf, targetOf, wordOf};
+ghost use Rattle.effect.specs.Retirements.{kindOf, targetOf, wordOf, numbersOf};
 use crate::actions::Action;
 use crate::actions::Retirement;
+use log::Line;
+use std::alloc::AllocError;
+use std::alloc::Global;
 
 impl Retirement {
     /// 0 for nothing, 1 for a register, 2 for memory, 3 for a trap, 4 for the halt.
@@ -41,5 +44,17 @@ impl Retirement {
             Action::Trap { word } => word,
             Action::Halt => 0,
         }
+    }
+}
+
+pub impl Line for Retirement as RetirementLine {
+    ghost numbers = { numbersOf };
+
+    fn line(&self, heap: Global) -> Result<String, AllocError> {
+        let place = self.place;
+        let kind = self.kind();
+        let target = self.target();
+        let word = self.word();
+        format!(heap, "{place} {kind} {target} {word}")
     }
 }

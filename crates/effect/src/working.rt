@@ -1,6 +1,6 @@
 ghost use mathlib.Core.Path.{_≡_};
 ghost use Prim.Native.Nat.{_<_};
-ghost use Rattle.unit.specs.Sets.{FaultInRange};
+ghost use Rattle.unit.specs.Faults.{FaultInRange};
 ghost use Rattle.effect.specs.declared.actions.Action.the-variants.{Nothing};
 ghost use Rattle.effect.specs.Effects.{following, addressOf, does, trapped, loaded, stored, computed, effectOf};
 use crate::actions::Action;

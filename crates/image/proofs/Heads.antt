@@ -10,7 +10,6 @@ use Rattle.std.specs.declared.option.Option.the-variants.{Some, None}
 use Rattle.std.specs.declared.result.Result.{Result}
 use Rattle.std.specs.declared.result.Result.the-variants.{Ok, Err}
 use Rattle.std.specs.Options.{isSome}
-use Rattle.std.proofs.shelf.Lists.{take-rest, drop-drop}
 use Rattle.std.proofs.shelf.Ways.{tells}
 use Rattle.image.specs.declared.parts.Head.{Head}
 use Rattle.image.specs.declared.faults.ImageFault.{ImageFault}
@@ -27,13 +26,6 @@ bounds bs h e = record { long = grind (arith, tells); few = grind (arith, tells)
 -- past the head, what the records say decides
 pub decided : (bs : List ℕ) (h : Head) (o : Option ImageFault) → Ok h ≡ headOf bs → 9 + 8 * h .count ≤ length bs → o ≡ faultIn (h .count) 0 (recordsOf (h .count) bs) → imageOf bs ≡ judged o (contents h bs)
 decided bs h o e l f = rw (← e, ← f) (grind (arith, tells))
-
--- the records and the rest as the code cuts them
-pub cut-records : (bs : List ℕ) (n : ℕ) → take n (take (length bs - 9) (drop 9 bs)) ≡ take n (drop 9 bs)
-cut-records bs n = ap (take n) (take-rest bs 9)
-
-pub cut-rest : (bs : List ℕ) (n : ℕ) → drop n (take (length bs - 9) (drop 9 bs)) ≡ drop (9 + n) bs
-cut-rest bs n = ap (drop n) (take-rest bs 9) ∙ drop-drop n 9 bs
 
 pub none-sound : (n : ℕ) (bs : List ℕ) → None ≡ faultIn n 0 bs → sound n bs ≡ true
 none-sound n bs e = ap (λ (o : Option ImageFault). not (isSome o)) (sym e)

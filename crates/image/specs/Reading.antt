@@ -10,6 +10,7 @@ use Rattle.std.specs.declared.result.Result.{Result}
 use Rattle.std.specs.declared.result.Result.the-variants.{Ok, Err}
 use Rattle.std.specs.Options.{isSome}
 use Rattle.fields.specs.Numbers.{twoAt, begins}
+use Rattle.fields.specs.Scanning.{firstIn, entriesOf}
 use Rattle.record.specs.Decoding.{recordOf, instructionOf}
 use Rattle.record.specs.declared.faults.RecordFault.{RecordFault}
 use Rattle.instruction.specs.declared.instructions.Instruction.{Instruction}
@@ -18,14 +19,17 @@ use Rattle.image.specs.declared.parts.Head.{Head}
 use Rattle.image.specs.declared.faults.ImageFault.{ImageFault}
 use Rattle.image.specs.declared.faults.ImageFault.the-variants.{ShortHead, Mark, Version, Count, Handler, ShortRecords, Record}
 
-abbrev pub faultAt : ℕ → Result Instruction RecordFault → Option ImageFault → Option ImageFault
-faultAt index (Ok i) later = later
-faultAt index (Err fault) later = Some (Record index fault)
+abbrev pub faultAt : ℕ → Result Instruction RecordFault → Option ImageFault
+faultAt index (Ok i) = None
+faultAt index (Err fault) = Some (Record index fault)
+
+-- the fault of the record that the bytes begin with
+abbrev pub recordFault : ℕ → List ℕ → Option ImageFault
+recordFault index bytes = faultAt index (instructionOf (recordOf bytes))
 
 -- the first fault of so many records, of which the first has the index
 abbrev pub faultIn : ℕ → ℕ → List ℕ → Option ImageFault
-faultIn zero index bytes = None
-faultIn (suc n) index bytes = faultAt index (instructionOf (recordOf bytes)) (faultIn n (suc index) (drop 8 bytes))
+faultIn n index bytes = firstIn recordFault 8 n index bytes
 
 -- is each of so many records an instruction
 abbrev pub sound : ℕ → List ℕ → Bool
@@ -36,9 +40,11 @@ decoded (Ok i) = i
 decoded (Err fault) = Halt
 
 -- the instructions of so many records
+abbrev pub instructionIn : List ℕ → Instruction
+instructionIn bytes = decoded (instructionOf (recordOf bytes))
+
 abbrev pub programOf : ℕ → List ℕ → List Instruction
-programOf zero bytes = []
-programOf (suc n) bytes = decoded (instructionOf (recordOf bytes)) ∷ programOf n (drop 8 bytes)
+programOf n bytes = entriesOf instructionIn 8 n bytes
 
 -- the numbers of the first nine bytes, or the first question of them whose answer is no
 abbrev pub headOf : List ℕ → Result Head ImageFault

@@ -116,8 +116,14 @@ clean s r e =
     let g = passed (spared (s .second) (r .second)) _ _ (f .1) in
     let h = passed (spared (s .literal) (r .literal)) _ _ (g .1) in
     record {
-      destination-fits = a .0; first-fits = b .0; second-fits = c .0;
-      destination-spared = d .0; first-spared = f .0; second-spared = g .0; literal-spared = h .0 }
+      destination-fits = a .0;
+      first-fits = b .0;
+      second-fits = c .0;
+      destination-spared = d .0;
+      first-spared = f .0;
+      second-spared = g .0;
+      literal-spared = h .0;
+    }
 
 no-fault : (o : Option RecordFault) (x i : Instruction) → judged o x ≡ Ok i → (o ≡ None) × (x ≡ i)
 no-fault None x i e = (refl, cc)
@@ -220,4 +226,5 @@ written-fields (suc (suc (suc (suc (suc (suc (suc n))))))) d f s l = written-pas
 pub decodes-exactly : (r : Record) (i : Instruction) → DecodesExactly r i
 decodes-exactly r i = record {
   written = written-fields (r .operation) (r .destination) (r .first) (r .second) (r .literal) i;
-  read = read-back i r }
+  read = read-back i r;
+}

@@ -4,13 +4,20 @@ use native.Mathlib.Numerals.{add-one}
 use native.Mathlib.Omega.{arith}
 use mathlib.Core.Bool.{Bool, true, false, cond}
 use mathlib.Core.List.{List, [], _∷_, _++_, append-assoc, append-nil}
-use mathlib.Core.Path.{_≡_, refl, sym, _∙_, ap}
-use lib.ListN.{length, getD, set, take, drop, length-take, length-set, take-append-drop}
-use Rattle.std.proofs.shelf.Lists.{take-more-set, drop-set-lt, drop-drop}
+use mathlib.Core.Path.{_≡_, refl, sym, _∙_, ap, subst}
+use lib.ListN.{length, getD, set, take, drop, length-take, length-drop, length-set, take-append-drop}
+use Rattle.std.proofs.shelf.Lists.{take-more-set, take-set-le, drop-set-lt, drop-set-add, drop-drop}
 use Rattle.effect.specs.declared.actions.Retirement.{Retirement}
 use Rattle.std.specs.declared.result.Result.the-variants.{Ok, Err}
 use Rattle.stepper.specs.declared.state.StepFault.{StepFault}
 use Rattle.stepper.specs.declared.state.StepFault.the-variants.{Halted}
+use borrow.Author.Tests.{lt-ltb}
+use Rattle.log.specs.Entries.{addedTo, countAfter}
+use denote.Ref.{now, name}
+use Rattle.log.specs.declared.places.Log.{Log}
+use Rattle.effect.specs.Effects.{Table}
+use Rattle.stepper.specs.declared.state.Stepper.{Stepper}
+use Rattle.stepper.specs.View.{view, worldOf, room, Ran}
 use Rattle.stepper.specs.Machine.{World, State, stepped, retired, answerOf, execution, records, logged}
 
 module _ (W : World) where
@@ -59,7 +66,7 @@ pub record Reached (W : World) (n i : ℕ) (S T : State) (xs ys : List Retiremen
 -- A run that is over.
 pub record Over (W : World) (n i : ℕ) (S T : State) (xs ys : List Retirement) : Type 0 where
   pub steps : i ≡ length (records W n S)
-  pub log : ys ≡ logged xs (records W n S)
+  pub log : ys ≡ records W n S ++ drop (length (records W n S)) xs
   pub state : T ≡ execution W n S
 
 module _ (W : World) (n : ℕ) (S : State) (xs : List Retirement) where
@@ -106,3 +113,46 @@ module _ (W : World) (n : ℕ) (S : State) (xs : List Retirement) where
   reached-all i T ys e r =
       let none : n - i ≡ 0 = omega arith in
       finished i T ys (omega arith) r (ap (λ (m : ℕ). records W m T) none) (ap (λ (m : ℕ). execution W m T) none)
+
+-- a log over places, of which the first c held entries before
+pub record Filled (W : World) (n i : ℕ) (S T : State) (c : ℕ) (xs ys : List Retirement) : Type 0 where
+  pub reached : Reached W n i S T (drop c xs) (drop c ys)
+  pub front : take c ys ≡ take c xs
+
+module _ (W : World) (n : ℕ) (S : State) (c : ℕ) (xs : List Retirement) where
+  pub filled-none : n ≡ length xs - c → Filled W n 0 S S c xs xs
+  filled-none e = record { reached = reached-none W n S (drop c xs) (length-drop c xs ∙ sym e); front = refl }
+
+  pub filled-more : (i : ℕ) (T T' : State) (ys zs : List Retirement) (x : Retirement) → i < n → Filled W n i S T c xs ys → T .halted ≡ false → T' ≡ stepped W T → x ≡ retired W T → zs ≡ set ys (c + i) x → Filled W n (i + 1) S T' c xs zs
+  filled-more i T T' ys zs x l r h e f g = record {
+    reached = subst (λ (us : List Retirement). Reached W n (i + 1) S T' (drop c xs) us) (sym (ap (drop c) g ∙ drop-set-add c ys i x)) (reached-more W n S (drop c xs) i T T' (drop c ys) x l (r .reached) h e f);
+    front = ap (take c) g ∙ take-set-le c ys (c + i) x (omega arith) ∙ r .front;
+  }
+
+  -- the whole log, once the run is over
+  pub filled-over : (i : ℕ) (T : State) (ys : List Retirement) → Filled W n i S T c xs ys → Over W n i S T (drop c xs) (drop c ys) → ys ≡ logged xs c (records W n S)
+  filled-over i T ys r o =
+      sym (take-append-drop c ys) ∙ ap (λ (zs : List Retirement). zs ++ drop c ys) (r .front) ∙ ap (λ (zs : List Retirement). take c xs ++ zs) (o .log)
+
+-- what adding to a log with a free place leaves
+module _ (places : List Retirement) (count : ℕ) (x : Retirement) (free : count < length places) where
+  pub added-places : addedTo places count x ≡ set places count x
+  added-places = rw (lt-ltb count (length places) free)
+
+  pub added-count : countAfter places count ≡ count + 1
+  added-count = rw (lt-ltb count (length places) free)
+
+-- a run that is over, as its contract says it
+pub ran-by : (table : Table) (before after : Stepper) (words words' : List ℕ) (log log' : Log Retirement) (steps : ℕ) (T : State) →
+    Filled (worldOf table (before .image)) (room log) steps (view before words) T (log .count) (now (log .places)) (now (log' .places)) →
+    Over (worldOf table (before .image)) (room log) steps (view before words) T (drop (log .count) (now (log .places))) (drop (log .count) (now (log' .places))) →
+    log' .count ≡ log .count + steps → name (log' .places) ≡ name (log .places) → view after words' ≡ T → after .image ≡ before .image →
+    Ran table before after words words' log log' steps
+ran-by table before after words words' log log' steps T filled over counted rooted viewed same = record {
+  made = over .steps;
+  places = filled-over (worldOf table (before .image)) (room log) (view before words) (log .count) (now (log .places)) steps T (now (log' .places)) filled over;
+  count = counted;
+  root = rooted;
+  state = viewed ∙ over .state;
+  image = same;
+}

@@ -2,7 +2,7 @@
 use Prim.Native.Nat.{ℕ, zero, suc}
 use mathlib.Core.Bool.{Bool, true, false, cond}
 use mathlib.Core.List.{List, [], _∷_, _++_}
-use lib.ListN.{length, getD, set, drop, replicate}
+use lib.ListN.{length, getD, set, take, drop, replicate}
 use Rattle.std.specs.declared.option.Option.{Option}
 use Rattle.std.specs.declared.option.Option.the-variants.{Some, None}
 use Rattle.std.specs.declared.result.Result.{Result}
@@ -96,6 +96,6 @@ abbrev pub records : World → ℕ → State → List Retirement
 records W zero S = []
 records W (suc n) S = cond (S .halted) [] (retired W S ∷ records W n (stepped W S))
 
--- places whose first are overwritten by records
-abbrev pub logged : List Retirement → List Retirement → List Retirement
-logged places made = made ++ drop (length made) places
+-- places that are overwritten by records, from the count on
+abbrev pub logged : List Retirement → ℕ → List Retirement → List Retirement
+logged places count made = take count places ++ (made ++ drop (length made) (drop count places))

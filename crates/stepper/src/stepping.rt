@@ -1,7 +1,6 @@
 ghost use mathlib.Core.Path.{_≡_};
-ghost use lib.ListN.{length};
-ghost use Rattle.stepper.specs.Machine.{applied, stepped, answerOf, execution, records, logged};
-ghost use Rattle.stepper.specs.View.{view, worldOf};
+ghost use Rattle.stepper.specs.Machine.{applied, stepped, answerOf};
+ghost use Rattle.stepper.specs.View.{view, worldOf, Ran};
 use crate::state::StepFault;
 use crate::state::Stepper;
 use effect::Action;
@@ -9,6 +8,7 @@ use effect::Effect;
 use effect::Fetched;
 use effect::Retirement;
 use instruction::Register;
+use log::Log;
 use memory::Memory;
 use memory::Readable;
 use unit::Unit;
@@ -65,27 +65,27 @@ impl<'a> Stepper<'a> {
 }
 
 impl<'a> Stepper<'a> {
-    /// Steps until the halt or until the log is full, and answers the number of steps. Their records
-    /// fill the first places of the log, and the other places stay as they were.
+    /// Steps until the halt or until the log is full, logs each step's record, and answers the
+    /// number of steps.
     pub fn run<U: Unit, M: Memory>(
         &mut self,
         unit: &U,
         memory: &mut M,
-        log: &mut [Retirement],
+        log: &mut Log<'_, Retirement>,
     ) -> usize
-        ensures steps { λ r. ⌜ r ≡ length (records (worldOf (U·Unit .table (now (unit .entry))) (now (self .entry) .image)) (length (now (log .entry))) (view (now (self .entry)) (M·Readable .words (now (memory .entry))))) ⌝ }
-        ensures log { λ _. ⌜ now (log .exit) ≡ logged (now (log .entry)) (records (worldOf (U·Unit .table (now (unit .entry))) (now (self .entry) .image)) (length (now (log .entry))) (view (now (self .entry)) (M·Readable .words (now (memory .entry))))) ⌝ }
-        ensures after { λ _. ⌜ view (now (self .exit)) (M·Readable .words (now (memory .exit))) ≡ execution (worldOf (U·Unit .table (now (unit .entry))) (now (self .entry) .image)) (length (now (log .entry))) (view (now (self .entry)) (M·Readable .words (now (memory .entry)))) ⌝ }
-        ensures image { λ _. ⌜ now (self .exit) .image ≡ now (self .entry) .image ⌝ }
+        ensures ran { λ r. ⌜ Ran (U·Unit .table (now (unit .entry))) (now (self .entry)) (now (self .exit)) (M·Readable .words (now (memory .entry))) (M·Readable .words (now (memory .exit))) (now (log .entry)) (now (log .exit)) r ⌝ }
         ensures rooted { λ _. ⌜ M·Memory .roots (now (memory .exit)) ≡ M·Memory .roots (now (memory .entry)) ⌝ }
         ensures beyond { λ _. ⌜ M·Memory .beyond (now (memory .exit)) ≡ M·Memory .beyond (now (memory .entry)) ⌝ }
     {
-        for made in 0..log.len() {
+        let room = log.free();
+        for made in 0..room {
             match self.step(unit, memory) {
-                Ok(record) => log[made] = record,
+                Ok(record) => {
+                    let _ = log.add(record);
+                }
                 Err(_) => return made,
             }
         }
-        log.len()
+        room
     }
 }

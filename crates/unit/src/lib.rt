@@ -1,9 +1,12 @@
 //! Units: what computes the outcome of an operation on two words.
 pub use outcome::Outcome;
+pub use table::TableUnit;
+pub use table::WordTable;
 pub use traits::Unit;
 pub use whole::WholeNumber;
 pub use whole::WholeUnit;
 
 mod outcome;
+mod table;
 mod traits;
 mod whole;

@@ -3,7 +3,8 @@ ghost use mathlib.Core.Bool.{false};
 ghost use Prim.Native.Nat.{ℕ};
 ghost use Rattle.unit.specs.declared.outcome.Outcome.{Outcome};
 ghost use Rattle.unit.specs.declared.outcome.Outcome.the-variants.{Fault};
-ghost use Rattle.unit.specs.Sets.{holds, FaultInRange};
+ghost use Rattle.fields.specs.Numbers.{holds};
+ghost use Rattle.unit.specs.Faults.{FaultInRange};
 use crate::outcome::Outcome;
 
 /// What computes. A unit means its table: an outcome for each operation and two words.

@@ -1,0 +1,4 @@
+pub mod Faults
+pub mod Decoding
+pub mod Reading
+pub mod Meaning
