@@ -1,0 +1,141 @@
+//! Single steps, and the state between them.
+use crate::programs::HALT;
+use crate::programs::Line;
+use crate::programs::image_of;
+use crate::programs::line_of;
+use image::Image;
+use image::ImageFaultDebug;
+use image::read_image;
+use instruction::Register;
+use memory::OwnMemory;
+use memory::OwnReadable;
+use memory::OwnWords;
+use memory::Readable;
+use std::test::*;
+use stepper::Stepper;
+use unit::WholeNumber;
+use unit::WholeUnit;
+
+/// The place, the halted mark, r1, r2 and r15, and the words at 0 and 63.
+type State = (u32, bool, [u32; 3], [Option<u32>; 2]);
+
+fn state_of(stepper: &Stepper<'_>, memory: &OwnWords) -> State {
+    let registers = [
+        stepper.register(Register::named(1)),
+        stepper.register(Register::named(2)),
+        stepper.register(Register::named(15)),
+    ];
+    let words = [memory.read(0).ok(), memory.read(63).ok()];
+    (stepper.place(), stepper.halted(), registers, words)
+}
+
+/// The line of a step, or the number of its refusal.
+fn line_or_refusal(stepper: &mut Stepper<'_>, memory: &mut OwnWords) -> Result<Line, u8> {
+    match stepper.step(&WholeNumber, memory) {
+        Ok(record) => Ok(line_of(record)),
+        Err(fault) => Err(fault.number()),
+    }
+}
+
+/// From the start, each step has this answer and leaves this state.
+fn steps_are(bytes: &[u8], table: &[(Result<Line, u8>, State)]) -> Result<(), Fail> {
+    let (parts, _) = read_image(bytes)?;
+    let mut stepper = Stepper::new(Image { parts });
+    let mut memory = OwnWords::new();
+    let start = (0, false, [0; 3], [Some(0); 2]);
+    check_eq(state_of(&stepper, &memory), start).note("the state at the start")?;
+    for (answer, state) in table {
+        check_eq(line_or_refusal(&mut stepper, &mut memory), *answer).note("a step's answer")?;
+        check_eq(state_of(&stepper, &memory), *state).note("the state after the step")?;
+    }
+    Ok(())
+}
+
+#[test]
+fn every_register_is_0_at_the_start(rt: LibcRuntime) -> Result<(), Fail> {
+    let bytes = image_of(rt.alloc(), 0, &[HALT])?;
+    let (parts, _) = read_image(&bytes)?;
+    let stepper = Stepper::new(Image { parts });
+    for number in 0..16u8 {
+        check_eq(
+            (number, stepper.register(Register::named(number))),
+            (number, 0),
+        )?;
+    }
+    Ok(())
+}
+
+#[test]
+fn states_of_a_program(rt: LibcRuntime) -> Result<(), Fail> {
+    let rows = [
+        (2, 1, 0, 0, 8),
+        (6, 0, 1, 1, 55),
+        (5, 2, 1, 0, 56),
+        (1, 0, 0, 0, 6),
+        (5, 1, 0, 0, 63),
+        HALT,
+    ];
+    let bytes = image_of(rt.alloc(), 4, &rows)?;
+    steps_are(
+        &bytes,
+        &[
+            (Ok((0, 1, 1, 8)), (1, false, [8, 0, 0], [Some(0), Some(0)])),
+            (Ok((1, 2, 63, 8)), (2, false, [8, 0, 0], [Some(0), Some(8)])),
+            (
+                Ok((2, 3, 15, 131074)),
+                (4, false, [8, 0, 131074], [Some(0), Some(8)]),
+            ),
+            (
+                Ok((4, 1, 1, 8)),
+                (5, false, [8, 0, 131074], [Some(0), Some(8)]),
+            ),
+            (
+                Ok((5, 4, 0, 0)),
+                (6, true, [8, 0, 131074], [Some(0), Some(8)]),
+            ),
+            (Err(30), (6, true, [8, 0, 131074], [Some(0), Some(8)])),
+            (Err(30), (6, true, [8, 0, 131074], [Some(0), Some(8)])),
+        ],
+    )
+}
+
+#[test]
+fn place_after_a_trap(rt: LibcRuntime) -> Result<(), Fail> {
+    let rows = [(1, 0, 0, 0, 70000), HALT, (6, 0, 0, 15, 0)];
+    let bytes = image_of(rt.alloc(), 2, &rows)?;
+    steps_are(
+        &bytes,
+        &[
+            (
+                Ok((0, 0, 0, 0)),
+                (70000, false, [0, 0, 0], [Some(0), Some(0)]),
+            ),
+            (
+                Ok((70000, 3, 15, 201072)),
+                (2, false, [0, 0, 201072], [Some(0), Some(0)]),
+            ),
+            (
+                Ok((2, 2, 0, 201072)),
+                (3, false, [0, 0, 201072], [Some(201072), Some(0)]),
+            ),
+            (
+                Ok((3, 3, 15, 196611)),
+                (2, false, [0, 0, 196611], [Some(201072), Some(0)]),
+            ),
+        ],
+    )
+}
+
+#[test]
+fn refused_after_the_halt(rt: LibcRuntime) -> Result<(), Fail> {
+    let bytes = image_of(rt.alloc(), 0, &[HALT, (2, 1, 0, 0, 1)])?;
+    let halted = (1, true, [0; 3], [Some(0); 2]);
+    steps_are(
+        &bytes,
+        &[
+            (Ok((0, 4, 0, 0)), halted),
+            (Err(30), halted),
+            (Err(30), halted),
+        ],
+    )
+}
