@@ -58,36 +58,50 @@ pub fn two(lower: [u8; 8], higher: [u8; 8]) -> [u8; 25] {
     ]
 }
 
-/// A head with these numbers, and as many records that halt.
+/// A head with these numbers, and so many records that halt.
 pub fn halts(heap: Global, count: u16, handler: u16, records: u16) -> Result<Vec<u8>, AllocError> {
-    let mut bytes = b"CFP\x00\x01".to_vec(heap)?;
-    for byte in count.to_be_bytes() {
-        bytes.push(byte)?;
-    }
-    for byte in handler.to_be_bytes() {
-        bytes.push(byte)?;
-    }
+    let [c1, c0] = count.to_be_bytes();
+    let [h1, h0] = handler.to_be_bytes();
+    let mut bytes = [67, 70, 80, 0, 1, c1, c0, h1, h0].to_vec(heap)?;
     for _ in 0..records {
-        for byte in HALT {
-            bytes.push(byte)?;
-        }
+        bytes.extend_from_slice(&HALT)?;
     }
     Ok(bytes)
 }
 
+/// Each head, before one record that halts, has this answer.
+pub fn heads_are(table: &[([u8; 9], Option<(u8, usize)>)]) -> Result<(), Fail> {
+    for (head, expected) in table {
+        let [m0, m1, m2, v1, v0, c1, c0, h1, h0] = *head;
+        let bytes = [m0, m1, m2, v1, v0, c1, c0, h1, h0, 0, 0, 0, 0, 0, 0, 0, 0];
+        check_eq((*head, refusal_of(&bytes)), (*head, *expected)).note("a head, one record")?;
+    }
+    Ok(())
+}
+
 /// Each record, alone in an image, is refused with this number and this byte place.
-pub fn refused(table: &[([u8; 8], u8, usize)], about: &str) -> Result<(), Fail> {
+pub fn refused(table: &[([u8; 8], u8, usize)]) -> Result<(), Fail> {
     for (record, number, place) in table {
         let told = (*record, refusal_of(&one(*record)));
-        check_eq(told, (*record, Some((*number, *place)))).note(about)?;
+        check_eq(told, (*record, Some((*number, *place)))).note("a record, alone")?;
+    }
+    Ok(())
+}
+
+/// Each two records, in an image, are refused with this number and this byte place.
+pub fn refused_pairs(table: &[([u8; 8], [u8; 8], u8, usize)]) -> Result<(), Fail> {
+    for (lower, higher, number, place) in table {
+        let told = (*lower, *higher, refusal_of(&two(*lower, *higher)));
+        let expected = (*lower, *higher, Some((*number, *place)));
+        check_eq(told, expected).note("two records")?;
     }
     Ok(())
 }
 
 /// Each record, alone in an image, is read.
-pub fn accepted(table: &[[u8; 8]], about: &str) -> Result<(), Fail> {
+pub fn accepted(table: &[[u8; 8]]) -> Result<(), Fail> {
     for record in table {
-        check_eq((*record, refusal_of(&one(*record))), (*record, None)).note(about)?;
+        check_eq((*record, refusal_of(&one(*record))), (*record, None)).note("a record, alone")?;
     }
     Ok(())
 }

@@ -1,25 +1,25 @@
 //! Where several questions have the answer no, the first decides.
 use crate::images::HALT;
 use crate::images::halts;
+use crate::images::heads_are;
 use crate::images::refusal_of;
 use crate::images::refused;
+use crate::images::refused_pairs;
 use crate::images::two;
 use std::test::*;
 
 #[test]
 fn questions_of_the_head() -> Result<(), Fail> {
-    let table = [
-        ([67, 70, 0, 0, 2, 0, 0, 0, 9], 2, 0),
-        ([67, 70, 80, 0, 2, 0, 0, 0, 9], 3, 3),
-        ([67, 70, 80, 0, 1, 0, 0, 0, 9], 4, 5),
-        ([67, 70, 80, 0, 1, 16, 1, 255, 255], 4, 5),
-        ([67, 70, 80, 0, 1, 0, 9, 0, 9], 5, 7),
-        ([67, 70, 80, 0, 1, 0, 9, 0, 8], 6, 9),
-    ];
-    for (head, number, place) in table {
-        let told = (head, refusal_of(&head));
-        check_eq(told, (head, Some((number, place)))).note("a head alone")?;
-    }
+    heads_are(
+        &[
+            ([67, 70, 0, 0, 2, 0, 0, 0, 9], Some((2, 0))),
+            ([67, 70, 80, 0, 2, 0, 0, 0, 9], Some((3, 3))),
+            ([67, 70, 80, 0, 1, 0, 0, 0, 9], Some((4, 5))),
+            ([67, 70, 80, 0, 1, 16, 1, 255, 255], Some((4, 5))),
+            ([67, 70, 80, 0, 1, 0, 9, 0, 9], Some((5, 7))),
+            ([67, 70, 80, 0, 1, 0, 9, 0, 8], Some((6, 17))),
+        ],
+    ).note("the lowest number decides")?;
     check_eq(refusal_of(&[0; 8]), Some((1, 8))).note("1 before 2")
 }
 
@@ -39,8 +39,7 @@ fn operation_before_fields() -> Result<(), Fail> {
             ([32, 16, 16, 17, 0, 0, 0, 1], 7, 9),
             ([255, 0, 0, 0, 0, 0, 0, 1], 7, 9),
         ],
-        "7 before 8 and 9",
-    )
+    ).note("7 before 8 and 9")
 }
 
 #[test]
@@ -59,8 +58,7 @@ fn ranges_before_zeros() -> Result<(), Fail> {
             ([16, 0, 16, 0, 0, 0, 0, 1], 8, 11),
             ([16, 0, 0, 17, 0, 0, 0, 1], 8, 12),
         ],
-        "8 before 9, at whichever byte",
-    )
+    ).note("8 before 9, at whichever byte")
 }
 
 #[test]
@@ -74,8 +72,7 @@ fn lowest_field_out_of_range() -> Result<(), Fail> {
             ([31, 15, 16, 17, 0, 0, 0, 0], 8, 11),
             ([31, 15, 15, 17, 0, 0, 0, 0], 8, 12),
         ],
-        "destination, then first, then second",
-    )
+    ).note("destination, then first, then second")
 }
 
 #[test]
@@ -91,27 +88,23 @@ fn lowest_field_that_is_not_zero() -> Result<(), Fail> {
             ([2, 1, 1, 1, 0, 0, 0, 1], 9, 11),
             ([4, 1, 1, 1, 0, 0, 0, 1], 9, 10),
         ],
-        "destination, then first, then second, then literal",
-    )
+    ).note("destination, then first, then second, then literal")
 }
 
 #[test]
 fn fault_in_the_second_record() -> Result<(), Fail> {
-    let table = [
-        ([7, 0, 0, 0, 0, 0, 0, 0], 7, 17),
-        ([2, 16, 0, 0, 0, 0, 0, 0], 8, 18),
-        ([5, 0, 16, 0, 0, 0, 0, 0], 8, 19),
-        ([6, 0, 0, 16, 0, 0, 0, 0], 8, 20),
-        ([0, 1, 0, 0, 0, 0, 0, 0], 9, 18),
-        ([1, 0, 1, 0, 0, 0, 0, 0], 9, 19),
-        ([1, 0, 0, 1, 0, 0, 0, 0], 9, 20),
-        ([0, 0, 0, 0, 0, 0, 0, 1], 9, 21),
-    ];
-    for (record, number, place) in table {
-        let told = (record, refusal_of(&two(HALT, record)));
-        check_eq(told, (record, Some((number, place)))).note("record 1 begins at byte 17")?;
-    }
-    Ok(())
+    refused_pairs(
+        &[
+            (HALT, [7, 0, 0, 0, 0, 0, 0, 0], 7, 17),
+            (HALT, [2, 16, 0, 0, 0, 0, 0, 0], 8, 18),
+            (HALT, [5, 0, 16, 0, 0, 0, 0, 0], 8, 19),
+            (HALT, [6, 0, 0, 16, 0, 0, 0, 0], 8, 20),
+            (HALT, [0, 1, 0, 0, 0, 0, 0, 0], 9, 18),
+            (HALT, [1, 0, 1, 0, 0, 0, 0, 0], 9, 19),
+            (HALT, [1, 0, 0, 1, 0, 0, 0, 0], 9, 20),
+            (HALT, [0, 0, 0, 0, 0, 0, 0, 1], 9, 21),
+        ],
+    ).note("record 1 begins at byte 17")
 }
 
 #[test]
@@ -119,19 +112,15 @@ fn lower_record_before_higher() -> Result<(), Fail> {
     let unknown = [7, 0, 0, 0, 0, 0, 0, 0];
     let outside = [2, 16, 0, 0, 0, 0, 0, 0];
     let unspared = [0, 0, 0, 0, 0, 0, 0, 1];
-    let table = [
-        (unknown, unspared, 7, 9),
-        (outside, unknown, 8, 10),
-        (unspared, unknown, 9, 13),
-        (unspared, outside, 9, 13),
-        (unspared, unspared, 9, 13),
-    ];
-    for (lower, higher, number, place) in table {
-        let told = (lower, higher, refusal_of(&two(lower, higher)));
-        let expected = (lower, higher, Some((number, place)));
-        check_eq(told, expected).note("the lower record is named")?;
-    }
-    Ok(())
+    refused_pairs(
+        &[
+            (unknown, unspared, 7, 9),
+            (outside, unknown, 8, 10),
+            (unspared, unknown, 9, 13),
+            (unspared, outside, 9, 13),
+            (unspared, unspared, 9, 13),
+        ],
+    ).note("the lower record is named")
 }
 
 fn put(bytes: &mut [u8], at: usize, byte: u8) {
@@ -141,13 +130,16 @@ fn put(bytes: &mut [u8], at: usize, byte: u8) {
 }
 
 #[test]
-fn fault_in_the_last_of_most_records(rt: LibcRuntime) -> Result<(), Fail> {
+fn faults_at_the_end_of_most_records(rt: LibcRuntime) -> Result<(), Fail> {
     let mut bytes = halts(rt.alloc(), 4096, 0, 4096)?;
-    check_eq(bytes.len(), 32777).note("9 + 8 * 4096 bytes")?;
-    put(&mut bytes, 32776, 1);
-    check_eq(refusal_of(&bytes), Some((9, 32773))).note("the literal of record 4,095")?;
-    put(&mut bytes, 32769, 7);
-    check_eq(refusal_of(&bytes), Some((7, 32769))).note("the operation of record 4,095")?;
-    put(&mut bytes, 32761, 32);
-    check_eq(refusal_of(&bytes), Some((7, 32761))).note("the operation of record 4,094")
+    let table = [
+        (32776, 1, Some((9, 32773))),
+        (32769, 7, Some((7, 32769))),
+        (32761, 32, Some((7, 32761))),
+    ];
+    for (at, byte, expected) in table {
+        put(&mut bytes, at, byte);
+        check_eq((at, refusal_of(&bytes)), (at, expected)).note("records 4,095 and 4,094")?;
+    }
+    Ok(())
 }

@@ -7,21 +7,22 @@ use std::test::*;
 
 #[test]
 fn operations_at_both_ends() -> Result<(), Fail> {
-    let table = [
-        (0, None),
-        (6, None),
-        (7, Some((7, 9))),
-        (15, Some((7, 9))),
-        (16, None),
-        (31, None),
-        (32, Some((7, 9))),
-        (255, Some((7, 9))),
-    ];
-    for (operation, expected) in table {
-        let told = refusal_of(&one([operation, 0, 0, 0, 0, 0, 0, 0]));
-        check_eq((operation, told), (operation, expected)).note("every field 0")?;
-    }
-    Ok(())
+    accepted(
+        &[
+            [0, 0, 0, 0, 0, 0, 0, 0],
+            [6, 0, 0, 0, 0, 0, 0, 0],
+            [16, 0, 0, 0, 0, 0, 0, 0],
+            [31, 0, 0, 0, 0, 0, 0, 0],
+        ],
+    ).note("the first and the last of both ranges")?;
+    refused(
+        &[
+            ([7, 0, 0, 0, 0, 0, 0, 0], 7, 9),
+            ([15, 0, 0, 0, 0, 0, 0, 0], 7, 9),
+            ([32, 0, 0, 0, 0, 0, 0, 0], 7, 9),
+            ([255, 0, 0, 0, 0, 0, 0, 0], 7, 9),
+        ],
+    ).note("beside both ranges")
 }
 
 #[test]
@@ -47,8 +48,7 @@ fn register_15_in_each_field() -> Result<(), Fail> {
             [16, 15, 15, 15, 0, 0, 0, 0],
             [31, 15, 15, 15, 0, 0, 0, 0],
         ],
-        "15 is a register",
-    )
+    ).note("15 is a register")
 }
 
 #[test]
@@ -66,8 +66,7 @@ fn register_16_in_each_field() -> Result<(), Fail> {
             ([4, 0, 255, 0, 0, 0, 0, 0], 8, 11),
             ([6, 0, 0, 255, 0, 0, 0, 0], 8, 12),
         ],
-        "16 is no register",
-    )
+    ).note("16 is no register")
 }
 
 #[test]
@@ -79,8 +78,7 @@ fn fields_of_every_unit_operation() -> Result<(), Fail> {
                 [operation, 15, 15, 16, 0, 0, 0, 0],
                 [operation, 15, 15, 16, 255, 255, 255, 255],
             ],
-            "second is a register or 16",
-        )?;
+        ).note("second is a register or 16")?;
         refused(
             &[
                 ([operation, 16, 0, 0, 0, 0, 0, 0], 8, 10),
@@ -90,26 +88,22 @@ fn fields_of_every_unit_operation() -> Result<(), Fail> {
                 ([operation, 0, 0, 15, 0, 0, 0, 1], 9, 13),
                 ([operation, 0, 0, 0, 1, 0, 0, 0], 9, 13),
             ],
-            "a field out of range, or a literal that is not used",
-        )?;
+        ).note("a field out of range, or a literal that is not used")?;
     }
     Ok(())
 }
 
 #[test]
 fn hints() -> Result<(), Fail> {
-    accepted(
-        &[[3, 0, 0, 0, 0, 0, 0, 0], [3, 1, 0, 0, 0, 0, 0, 0]],
-        "0 and 1 are hints",
-    )?;
+    let known = [[3, 0, 0, 0, 0, 0, 0, 0], [3, 1, 0, 0, 0, 0, 0, 0]];
+    accepted(&known).note("0 and 1 are hints")?;
     refused(
         &[
             ([3, 2, 0, 0, 0, 0, 0, 0], 8, 10),
             ([3, 15, 0, 0, 0, 0, 0, 0], 8, 10),
             ([3, 255, 0, 0, 0, 0, 0, 0], 8, 10),
         ],
-        "2 is no hint",
-    )
+    ).note("2 is no hint")
 }
 
 #[test]
@@ -133,8 +127,7 @@ fn unused_fields() -> Result<(), Fail> {
             ([0, 0, 0, 255, 0, 0, 0, 0], 9, 12),
             ([4, 255, 0, 0, 0, 0, 0, 0], 9, 10),
         ],
-        "an unused field is 0",
-    )
+    ).note("an unused field is 0")
 }
 
 #[test]
@@ -148,6 +141,5 @@ fn each_byte_of_an_unused_literal() -> Result<(), Fail> {
             ([16, 0, 0, 0, 0, 128, 0, 0], 9, 13),
             ([31, 0, 0, 15, 0, 0, 128, 0], 9, 13),
         ],
-        "the literal begins at byte 13",
-    )
+    ).note("the literal begins at byte 13")
 }

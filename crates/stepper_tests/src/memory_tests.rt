@@ -9,152 +9,127 @@ use memory::OwnWords;
 use memory::Readable;
 use std::test::*;
 
-/// The word that is read, or the number of the refusal.
-fn read_of<R: Readable>(memory: &R, address: u32) -> Result<u32, u8> {
-    match memory.read(address) {
+/// An access: the address, the word where it is a write, and the answer: the word that was read or
+/// written, or the number of the refusal.
+type Access = (u32, Option<u32>, Result<u32, u8>);
+
+fn answer_of<M: Memory>(memory: &mut M, address: u32, written: Option<u32>) -> Result<u32, u8> {
+    let answer = match written {
+        Some(word) => match memory.write(address, word) {
+            Ok(_) => Ok(word),
+            Err(fault) => Err(fault),
+        },
+        None => memory.read(address),
+    };
+    match answer {
         Ok(word) => Ok(word),
         Err(fault) => Err(fault.number()),
     }
 }
 
-/// Nothing, or the number of the refusal.
-fn write_of<M: Memory>(memory: &mut M, address: u32, word: u32) -> Result<(), u8> {
-    match memory.write(address, word) {
-        Ok(_) => Ok(()),
-        Err(fault) => Err(fault.number()),
+/// The memory has this size, before and after these accesses, which have these answers.
+fn answers_are<M: Memory>(memory: &mut M, size: u32, table: &[Access]) -> Result<(), Fail> {
+    for (address, written, answer) in table {
+        let told = (
+            memory.size(),
+            *address,
+            answer_of(memory, *address, *written),
+        );
+        check_eq(told, (size, *address, *answer)).note("size, address, answer")?;
     }
+    check_eq(memory.size(), size).note("size")
 }
 
-/// Reads at these addresses give these words.
-fn reads<R: Readable>(memory: &R, table: &[(u32, Result<u32, u8>)]) -> Result<(), Fail> {
-    for (address, answer) in table {
-        check_eq((*address, read_of(memory, *address)), (*address, *answer)).note("a read")?;
+/// Is every word of the memory 0?
+fn all_zero(memory: &OwnWords) -> bool {
+    for address in 0..64 {
+        if memory.read(address).ok() != Some(0) {
+            return false;
+        }
     }
-    Ok(())
-}
-
-/// Writes at these addresses have these answers.
-fn writes<M: Memory>(memory: &mut M, table: &[(u32, u32, Result<(), u8>)]) -> Result<(), Fail> {
-    for (address, word, answer) in table {
-        let told = write_of(memory, *address, *word);
-        check_eq((*address, told), (*address, *answer)).note("a write")?;
-    }
-    Ok(())
-}
-
-#[test]
-fn own_words_are_0_at_first() -> Result<(), Fail> {
-    let memory = OwnWords::new();
-    check_eq(memory.size(), 64).note("64 words")?;
-    for address in 0..64u32 {
-        check_eq((address, read_of(&memory, address)), (address, Ok(0)))?;
-    }
-    reads(
-        &memory,
-        &[(64, Err(44)), (65536, Err(44)), (4294967295, Err(44))],
-    )
+    true
 }
 
 #[test]
-fn own_words_are_written() -> Result<(), Fail> {
+fn own_words() -> Result<(), Fail> {
     let mut memory = OwnWords::new();
-    let table = [
-        (0, 7, Ok(())),
-        (63, 4294967295, Ok(())),
-        (64, 9, Err(44)),
-        (4294967295, 9, Err(44)),
-    ];
-    writes(&mut memory, &table)?;
-    check_eq(memory.size(), 64).note("the size stays")?;
-    reads(
-        &memory,
+    check(all_zero(&memory)).note("every word is 0 at first")?;
+    answers_are(
+        &mut memory,
+        64,
         &[
-            (0, Ok(7)),
-            (1, Ok(0)),
-            (62, Ok(0)),
-            (63, Ok(4294967295)),
-            (64, Err(44)),
+            (64, None, Err(44)),
+            (4294967295, None, Err(44)),
+            (0, Some(7), Ok(7)),
+            (63, Some(4294967295), Ok(4294967295)),
+            (0, None, Ok(7)),
+            (1, None, Ok(0)),
+            (62, None, Ok(0)),
+            (63, None, Ok(4294967295)),
         ],
     )
 }
 
 #[test]
-fn refused_writes_change_nothing() -> Result<(), Fail> {
+fn refused_writes() -> Result<(), Fail> {
     let mut memory = OwnWords::new();
-    writes(
-        &mut memory,
-        &[(64, 9, Err(44)), (128, 9, Err(44)), (65536, 9, Err(44))],
-    )?;
-    for address in 0..64u32 {
-        check_eq((address, read_of(&memory, address)), (address, Ok(0)))?;
-    }
-    Ok(())
+    let table = [
+        (64, Some(9), Err(44)),
+        (128, Some(9), Err(44)),
+        (65536, Some(9), Err(44)),
+        (4294967295, Some(9), Err(44)),
+    ];
+    answers_are(&mut memory, 64, &table)?;
+    check(all_zero(&memory)).note("a refused write changes nothing")
 }
 
 #[test]
 fn lent_words() -> Result<(), Fail> {
     let mut words = [1, 2, 3, 4];
-    let mut memory = LentWords::new(&mut words);
-    check_eq(memory.size(), 4).note("as many as are lent")?;
-    reads(
-        &memory,
-        &[(0, Ok(1)), (3, Ok(4)), (4, Err(44)), (4294967295, Err(44))],
-    )?;
-    writes(
-        &mut memory,
-        &[(0, 10, Ok(())), (3, 40, Ok(())), (4, 50, Err(44))],
-    )?;
-    reads(
-        &memory,
-        &[
-            (0, Ok(10)),
-            (1, Ok(2)),
-            (2, Ok(3)),
-            (3, Ok(40)),
-            (4, Err(44)),
-        ],
-    )?;
+    let table = [
+        (0, None, Ok(1)),
+        (3, None, Ok(4)),
+        (4, None, Err(44)),
+        (4294967295, None, Err(44)),
+        (0, Some(10), Ok(10)),
+        (3, Some(40), Ok(40)),
+        (4, Some(50), Err(44)),
+        (0, None, Ok(10)),
+        (1, None, Ok(2)),
+        (3, None, Ok(40)),
+    ];
+    answers_are(&mut LentWords::new(&mut words), 4, &table)?;
     check_eq(words, [10, 2, 3, 40]).note("the caller's words")
 }
 
 #[test]
 fn no_lent_words() -> Result<(), Fail> {
-    let mut memory = LentWords::new(&mut []);
-    check_eq(memory.size(), 0).note("no words")?;
-    reads(&memory, &[(0, Err(44))])?;
-    writes(&mut memory, &[(0, 1, Err(44))])
+    let table = [(0, None, Err(44)), (0, Some(1), Err(44))];
+    answers_are(&mut LentWords::new(&mut []), 0, &table)
 }
 
-/// Over so many words, all 5: which words are written, and which are outside.
-fn last_of_most(words: &mut [u32]) -> Result<(), Fail> {
-    let mut memory = LentWords::new(words);
-    check_eq(memory.size(), 65536).note("the most words that a memory has")?;
-    writes(
-        &mut memory,
-        &[(0, 6, Ok(())), (65535, 7, Ok(())), (65536, 8, Err(44))],
-    )?;
-    reads(
-        &memory,
-        &[
-            (0, Ok(6)),
-            (1, Ok(5)),
-            (65534, Ok(5)),
-            (65535, Ok(7)),
-            (65536, Err(44)),
-        ],
-    )
+/// Accesses to a memory of 65,536 words that are 5.
+const MOST: [Access; 8] = [
+    (0, Some(6), Ok(6)),
+    (65535, Some(7), Ok(7)),
+    (65536, Some(8), Err(44)),
+    (0, None, Ok(6)),
+    (1, None, Ok(5)),
+    (65534, None, Ok(5)),
+    (65535, None, Ok(7)),
+    (65536, None, Err(44)),
+];
+
+#[test]
+fn as_many_lent_words_as_a_memory_has() -> Result<(), Fail> {
+    let mut words = [5; 65536];
+    answers_are(&mut LentWords::new(&mut words), 65536, &MOST)?;
+    check_eq(&words[65534..65536], &[5, 7]).note("the last two words")
 }
 
 #[test]
-fn as_many_lent_words_as_a_memory_has(rt: LibcRuntime) -> Result<(), Fail> {
-    let mut words = vec![in rt.alloc(); 5u32; 65536]?;
-    last_of_most(&mut words)?;
-    check_eq((words.len(), words.last().copied()), (65536, Some(7))).note("the last word")
-}
-
-#[test]
-fn one_lent_word_more(rt: LibcRuntime) -> Result<(), Fail> {
-    let mut words = vec![in rt.alloc(); 5u32; 65537]?;
-    last_of_most(&mut words)?;
-    check_eq((words.len(), words.last().copied()), (65537, Some(5))).note("the last word stays")
+fn one_lent_word_more() -> Result<(), Fail> {
+    let mut words = [5; 65537];
+    answers_are(&mut LentWords::new(&mut words), 65536, &MOST)?;
+    check_eq(&words[65534..65537], &[5, 7, 5]).note("the last word stays")
 }

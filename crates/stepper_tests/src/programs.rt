@@ -27,41 +27,66 @@ pub fn line_of(record: Retirement) -> Line {
 }
 
 /// The image of the rows.
-pub fn image_of(heap: Global, handler: u16, rows: &[Row]) -> Result<Vec<u8>, Fail> {
-    let mut bytes = b"CFP\x00\x01".to_vec(heap)?;
-    bytes.extend_from_slice(&u16::try_from(rows.len())?.to_be_bytes())?;
-    bytes.extend_from_slice(&handler.to_be_bytes())?;
+fn image_of(heap: Global, handler: u16, rows: &[Row]) -> Result<Vec<u8>, Fail> {
+    let [c1, c0] = u16::try_from(rows.len())?.to_be_bytes();
+    let [h1, h0] = handler.to_be_bytes();
+    let mut bytes = [67, 70, 80, 0, 1, c1, c0, h1, h0].to_vec(heap)?;
     for (operation, destination, first, second, literal) in rows {
-        bytes.extend_from_slice(&[*operation, *destination, *first, *second])?;
-        bytes.extend_from_slice(&literal.to_be_bytes())?;
+        let [l3, l2, l1, l0] = literal.to_be_bytes();
+        let record = [*operation, *destination, *first, *second, l3, l2, l1, l0];
+        bytes.extend_from_slice(&record)?;
     }
     Ok(bytes)
 }
 
-/// How many steps were made, and whether it halted.
-pub fn went(
+/// The first place at which the log holds another line than is expected, with both; none where it
+/// holds these lines.
+fn difference(log: &[Retirement], lines: &[Line]) -> Option<(Line, Line)> {
+    for (record, line) in log.iter().zip(lines) {
+        let found = line_of(*record);
+        if found != *line {
+            return Some((found, *line));
+        }
+    }
+    None
+}
+
+/// The bytes, executed over the words, make so many steps, halt or not, and leave these lines.
+pub fn leaves(
     bytes: &[u8],
     words: &mut [u32],
     log: &mut [Retirement],
-) -> Result<(usize, bool), Fail> {
+    told: (usize, bool),
+    lines: &[Line],
+) -> Result<(), Fail> {
     let execution = execute(bytes, &WholeNumber, words, log)?;
-    Ok((execution.steps, execution.halted))
+    let (steps, halted) = told;
+    let found = (execution.steps, execution.halted, difference(log, lines));
+    check_eq(found, (steps, halted, None)).note("steps, halted, another line than is expected")
 }
 
-/// The first places of the log hold these lines.
-pub fn lines_are(log: &[Retirement], lines: &[Line]) -> Result<(), Fail> {
-    for (record, line) in log.iter().zip(lines) {
-        check_eq(line_of(*record), *line).note("place, kind, target, word")?;
-    }
-    Ok(())
+/// The same of the image of the rows.
+pub fn rows_leave(
+    heap: Global,
+    (handler, rows): (u16, &[Row]),
+    words: &mut [u32],
+    log: &mut [Retirement],
+    told: (usize, bool),
+    lines: &[Line],
+) -> Result<(), Fail> {
+    let bytes = image_of(heap, handler, rows)?;
+    leaves(&bytes, words, log, told, lines)
 }
 
 /// The rows, executed over sixteen words that are 0, halt after these lines.
 pub fn yields(heap: Global, handler: u16, rows: &[Row], lines: &[Line]) -> Result<(), Fail> {
-    let bytes = image_of(heap, handler, rows)?;
-    let mut words = [0u32; 16];
-    let mut log = [UNUSED; 32];
-    let steps = went(&bytes, &mut words, &mut log)?;
-    lines_are(&log, lines)?;
-    check_eq(steps, (lines.len(), true)).note("steps, halted")
+    let told = (lines.len(), true);
+    rows_leave(
+        heap,
+        (handler, rows),
+        &mut [0; 16],
+        &mut [UNUSED; 32],
+        told,
+        lines,
+    )
 }

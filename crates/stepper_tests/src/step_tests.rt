@@ -1,7 +1,5 @@
 //! Single steps, and the state between them.
-use crate::programs::HALT;
 use crate::programs::Line;
-use crate::programs::image_of;
 use crate::programs::line_of;
 use image::Image;
 use image::ImageFaultDebug;
@@ -37,24 +35,189 @@ fn line_or_refusal(stepper: &mut Stepper<'_>, memory: &mut OwnWords) -> Result<L
     }
 }
 
-/// From the start, each step has this answer and leaves this state.
-fn steps_are(bytes: &[u8], table: &[(Result<Line, u8>, State)]) -> Result<(), Fail> {
+/// From the start, the state before each step and the step's answer.
+fn steps_are(bytes: &[u8], table: &[(State, Result<Line, u8>)]) -> Result<(), Fail> {
     let (parts, _) = read_image(bytes)?;
     let mut stepper = Stepper::new(Image { parts });
     let mut memory = OwnWords::new();
-    let start = (0, false, [0; 3], [Some(0); 2]);
-    check_eq(state_of(&stepper, &memory), start).note("the state at the start")?;
-    for (answer, state) in table {
-        check_eq(line_or_refusal(&mut stepper, &mut memory), *answer).note("a step's answer")?;
-        check_eq(state_of(&stepper, &memory), *state).note("the state after the step")?;
+    for row in table {
+        let state = state_of(&stepper, &memory);
+        let answer = line_or_refusal(&mut stepper, &mut memory);
+        check_eq((state, answer), *row).note("the state before a step, and the answer")?;
     }
     Ok(())
 }
 
+/// Set r1 to 8; Store r1 at 63; Load r2 from 64, which traps; a Halt; the handler: Load r1 from 63;
+/// Halt.
+const PROGRAM: [u8; 57] = [
+    67,
+    70,
+    80,
+    0,
+    1,
+    0,
+    6,
+    0,
+    4,
+    2,
+    1,
+    0,
+    0,
+    0,
+    0,
+    0,
+    8,
+    6,
+    0,
+    1,
+    1,
+    0,
+    0,
+    0,
+    55,
+    5,
+    2,
+    1,
+    0,
+    0,
+    0,
+    0,
+    56,
+    0,
+    0,
+    0,
+    0,
+    0,
+    0,
+    0,
+    0,
+    5,
+    1,
+    0,
+    0,
+    0,
+    0,
+    0,
+    63,
+    0,
+    0,
+    0,
+    0,
+    0,
+    0,
+    0,
+    0,
+];
+
 #[test]
-fn every_register_is_0_at_the_start(rt: LibcRuntime) -> Result<(), Fail> {
-    let bytes = image_of(rt.alloc(), 0, &[HALT])?;
-    let (parts, _) = read_image(&bytes)?;
+fn states_of_a_program() -> Result<(), Fail> {
+    let end = (6, true, [8, 0, 131074], [Some(0), Some(8)]);
+    steps_are(
+        &PROGRAM,
+        &[
+            ((0, false, [0, 0, 0], [Some(0), Some(0)]), Ok((0, 1, 1, 8))),
+            ((1, false, [8, 0, 0], [Some(0), Some(0)]), Ok((1, 2, 63, 8))),
+            (
+                (2, false, [8, 0, 0], [Some(0), Some(8)]),
+                Ok((2, 3, 15, 131074)),
+            ),
+            (
+                (4, false, [8, 0, 131074], [Some(0), Some(8)]),
+                Ok((4, 1, 1, 8)),
+            ),
+            (
+                (5, false, [8, 0, 131074], [Some(0), Some(8)]),
+                Ok((5, 4, 0, 0)),
+            ),
+            (end, Err(30)),
+            (end, Err(30)),
+        ],
+    )
+}
+
+/// Jump to 70,000; Halt; the handler: Store r15 at 0.
+const LONG_JUMP: [u8; 33] = [
+    67,
+    70,
+    80,
+    0,
+    1,
+    0,
+    3,
+    0,
+    2,
+    1,
+    0,
+    0,
+    0,
+    0,
+    1,
+    17,
+    112,
+    0,
+    0,
+    0,
+    0,
+    0,
+    0,
+    0,
+    0,
+    6,
+    0,
+    0,
+    15,
+    0,
+    0,
+    0,
+    0,
+];
+
+#[test]
+fn place_after_a_trap() -> Result<(), Fail> {
+    steps_are(
+        &LONG_JUMP,
+        &[
+            ((0, false, [0, 0, 0], [Some(0), Some(0)]), Ok((0, 0, 0, 0))),
+            (
+                (70000, false, [0, 0, 0], [Some(0), Some(0)]),
+                Ok((70000, 3, 15, 201072)),
+            ),
+            (
+                (2, false, [0, 0, 201072], [Some(0), Some(0)]),
+                Ok((2, 2, 0, 201072)),
+            ),
+            (
+                (3, false, [0, 0, 201072], [Some(201072), Some(0)]),
+                Ok((3, 3, 15, 196611)),
+            ),
+            (
+                (2, false, [0, 0, 196611], [Some(201072), Some(0)]),
+                Ok((2, 2, 0, 196611)),
+            ),
+        ],
+    )
+}
+
+/// Halt, with handler 0.
+const ONE_HALT: [u8; 17] = [67, 70, 80, 0, 1, 0, 1, 0, 0, 0, 0, 0, 0, 0, 0, 0, 0];
+
+#[test]
+fn refused_after_the_halt() -> Result<(), Fail> {
+    let halted = (1, true, [0; 3], [Some(0); 2]);
+    steps_are(
+        &ONE_HALT,
+        &[
+            ((0, false, [0; 3], [Some(0); 2]), Ok((0, 4, 0, 0))),
+            (halted, Err(30)),
+            (halted, Err(30)),
+        ],
+    )
+}
+
+#[test]
+fn every_register_is_0_at_the_start() -> Result<(), Fail> {
+    let (parts, _) = read_image(&ONE_HALT)?;
     let stepper = Stepper::new(Image { parts });
     for number in 0..16u8 {
         check_eq(
@@ -63,79 +226,4 @@ fn every_register_is_0_at_the_start(rt: LibcRuntime) -> Result<(), Fail> {
         )?;
     }
     Ok(())
-}
-
-#[test]
-fn states_of_a_program(rt: LibcRuntime) -> Result<(), Fail> {
-    let rows = [
-        (2, 1, 0, 0, 8),
-        (6, 0, 1, 1, 55),
-        (5, 2, 1, 0, 56),
-        (1, 0, 0, 0, 6),
-        (5, 1, 0, 0, 63),
-        HALT,
-    ];
-    let bytes = image_of(rt.alloc(), 4, &rows)?;
-    steps_are(
-        &bytes,
-        &[
-            (Ok((0, 1, 1, 8)), (1, false, [8, 0, 0], [Some(0), Some(0)])),
-            (Ok((1, 2, 63, 8)), (2, false, [8, 0, 0], [Some(0), Some(8)])),
-            (
-                Ok((2, 3, 15, 131074)),
-                (4, false, [8, 0, 131074], [Some(0), Some(8)]),
-            ),
-            (
-                Ok((4, 1, 1, 8)),
-                (5, false, [8, 0, 131074], [Some(0), Some(8)]),
-            ),
-            (
-                Ok((5, 4, 0, 0)),
-                (6, true, [8, 0, 131074], [Some(0), Some(8)]),
-            ),
-            (Err(30), (6, true, [8, 0, 131074], [Some(0), Some(8)])),
-            (Err(30), (6, true, [8, 0, 131074], [Some(0), Some(8)])),
-        ],
-    )
-}
-
-#[test]
-fn place_after_a_trap(rt: LibcRuntime) -> Result<(), Fail> {
-    let rows = [(1, 0, 0, 0, 70000), HALT, (6, 0, 0, 15, 0)];
-    let bytes = image_of(rt.alloc(), 2, &rows)?;
-    steps_are(
-        &bytes,
-        &[
-            (
-                Ok((0, 0, 0, 0)),
-                (70000, false, [0, 0, 0], [Some(0), Some(0)]),
-            ),
-            (
-                Ok((70000, 3, 15, 201072)),
-                (2, false, [0, 0, 201072], [Some(0), Some(0)]),
-            ),
-            (
-                Ok((2, 2, 0, 201072)),
-                (3, false, [0, 0, 201072], [Some(201072), Some(0)]),
-            ),
-            (
-                Ok((3, 3, 15, 196611)),
-                (2, false, [0, 0, 196611], [Some(201072), Some(0)]),
-            ),
-        ],
-    )
-}
-
-#[test]
-fn refused_after_the_halt(rt: LibcRuntime) -> Result<(), Fail> {
-    let bytes = image_of(rt.alloc(), 0, &[HALT, (2, 1, 0, 0, 1)])?;
-    let halted = (1, true, [0; 3], [Some(0); 2]);
-    steps_are(
-        &bytes,
-        &[
-            (Ok((0, 4, 0, 0)), halted),
-            (Err(30), halted),
-            (Err(30), halted),
-        ],
-    )
 }
