@@ -1,0 +1,107 @@
+//! Images to try, and how the reader's answer is compared.
+use fields::Refusal;
+use image::read_image;
+use std::alloc::AllocError;
+use std::alloc::Global;
+use std::test::*;
+
+/// A record that halts.
+pub const HALT: [u8; 8] = [0; 8];
+
+/// The number and the byte place of the refusal; none where the bytes are read.
+pub fn refusal_of(bytes: &[u8]) -> Option<(u8, usize)> {
+    match read_image(bytes) {
+        Ok(_) => None,
+        Err(fault) => {
+            let Refusal { number, place } = fault.refusal();
+            Some((number, place))
+        }
+    }
+}
+
+/// The image of one record, with handler 0. The record begins at byte 9.
+pub fn one(record: [u8; 8]) -> [u8; 17] {
+    let [o, d, f, s, a, b, c, e] = record;
+    [67, 70, 80, 0, 1, 0, 1, 0, 0, o, d, f, s, a, b, c, e]
+}
+
+/// The image of two records, with handler 1. They begin at bytes 9 and 17.
+pub fn two(lower: [u8; 8], higher: [u8; 8]) -> [u8; 25] {
+    let [o, d, f, s, a, b, c, e] = lower;
+    let [p, g, h, t, i, j, k, l] = higher;
+    [
+        67,
+        70,
+        80,
+        0,
+        1,
+        0,
+        2,
+        0,
+        1,
+        o,
+        d,
+        f,
+        s,
+        a,
+        b,
+        c,
+        e,
+        p,
+        g,
+        h,
+        t,
+        i,
+        j,
+        k,
+        l,
+    ]
+}
+
+/// A head with these numbers, and so many records that halt.
+pub fn halts(heap: Global, count: u16, handler: u16, records: u16) -> Result<Vec<u8>, AllocError> {
+    let [c1, c0] = count.to_be_bytes();
+    let [h1, h0] = handler.to_be_bytes();
+    let mut bytes = [67, 70, 80, 0, 1, c1, c0, h1, h0].to_vec(heap)?;
+    for _ in 0..records {
+        bytes.extend_from_slice(&HALT)?;
+    }
+    Ok(bytes)
+}
+
+/// Each head, before one record that halts, has this answer.
+pub fn heads_are(table: &[([u8; 9], Option<(u8, usize)>)]) -> Result<(), Fail> {
+    for (head, expected) in table {
+        let [m0, m1, m2, v1, v0, c1, c0, h1, h0] = *head;
+        let bytes = [m0, m1, m2, v1, v0, c1, c0, h1, h0, 0, 0, 0, 0, 0, 0, 0, 0];
+        check_eq((*head, refusal_of(&bytes)), (*head, *expected)).note("a head, one record")?;
+    }
+    Ok(())
+}
+
+/// Each record, alone in an image, is refused with this number and this byte place.
+pub fn refused(table: &[([u8; 8], u8, usize)]) -> Result<(), Fail> {
+    for (record, number, place) in table {
+        let told = (*record, refusal_of(&one(*record)));
+        check_eq(told, (*record, Some((*number, *place)))).note("a record, alone")?;
+    }
+    Ok(())
+}
+
+/// Each two records, in an image, are refused with this number and this byte place.
+pub fn refused_pairs(table: &[([u8; 8], [u8; 8], u8, usize)]) -> Result<(), Fail> {
+    for (lower, higher, number, place) in table {
+        let told = (*lower, *higher, refusal_of(&two(*lower, *higher)));
+        let expected = (*lower, *higher, Some((*number, *place)));
+        check_eq(told, expected).note("two records")?;
+    }
+    Ok(())
+}
+
+/// Each record, alone in an image, is read.
+pub fn accepted(table: &[[u8; 8]]) -> Result<(), Fail> {
+    for record in table {
+        check_eq((*record, refusal_of(&one(*record))), (*record, None)).note("a record, alone")?;
+    }
+    Ok(())
+}
