@@ -14,9 +14,15 @@ fn set_fault(stages: u8, stage: u8, set: u32) -> Option<LayoutFault>
     ensures { λ r. ⌜ r ≡ setFault stages stage set ⌝ }
 {
     if set % 4 != 0 || set / 128 % 512 != 0 {
-        Some(LayoutFault::Set { stage, fault: SetFault::Unheard })
+        Some(LayoutFault::Set {
+            stage,
+            fault: SetFault::Unheard,
+        })
     } else if stage + 1 < stages && set / 32 % 4 != 0 {
-        Some(LayoutFault::Set { stage, fault: SetFault::MemoryBelowTop })
+        Some(LayoutFault::Set {
+            stage,
+            fault: SetFault::MemoryBelowTop,
+        })
     } else {
         None
     }
@@ -46,7 +52,9 @@ fn read_stages(bytes: &[u8]) -> Result<u8, LayoutFault>
     ensures { λ r. ⌜ r ≡ stagesOf (now (bytes .entry)) ⌝ }
 {
     let [m0, m1, m2, v1, v0, stages, ..] = bytes else {
-        return Err(LayoutFault::ShortHead { handed: bytes.len() });
+        return Err(LayoutFault::ShortHead {
+            handed: bytes.len(),
+        });
     };
     if *m0 != b'C' || *m1 != b'F' || *m2 != b'L' {
         return Err(LayoutFault::Mark);
@@ -68,7 +76,9 @@ pub fn read_layout(bytes: &[u8]) -> Result<(LayoutParts<'_>, &[u8]), LayoutFault
     let stages = read_stages(bytes)?;
     let size = 4 * stages as usize;
     if bytes.len() < 6 + size {
-        return Err(LayoutFault::ShortSets { handed: bytes.len() });
+        return Err(LayoutFault::ShortSets {
+            handed: bytes.len(),
+        });
     }
     let (sets, rest) = bytes[6..].split_at(size);
     match first_fault(sets, stages) {

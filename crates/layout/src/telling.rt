@@ -22,12 +22,30 @@ impl LayoutFault {
         ensures { λ r. ⌜ r ≡ layoutRefusal self ⌝ }
     {
         match self {
-            LayoutFault::ShortHead { handed } => Refusal { number: 10, place: handed },
-            LayoutFault::Mark => Refusal { number: 11, place: 0 },
-            LayoutFault::Version => Refusal { number: 12, place: 3 },
-            LayoutFault::Stages => Refusal { number: 13, place: 5 },
-            LayoutFault::ShortSets { handed } => Refusal { number: 14, place: handed },
-            LayoutFault::Set { stage, fault } => Refusal { number: fault.number(), place: 6 + 4 * stage as usize },
+            LayoutFault::ShortHead { handed } => Refusal {
+                number: 10,
+                place: handed,
+            },
+            LayoutFault::Mark => Refusal {
+                number: 11,
+                place: 0,
+            },
+            LayoutFault::Version => Refusal {
+                number: 12,
+                place: 3,
+            },
+            LayoutFault::Stages => Refusal {
+                number: 13,
+                place: 5,
+            },
+            LayoutFault::ShortSets { handed } => Refusal {
+                number: 14,
+                place: handed,
+            },
+            LayoutFault::Set { stage, fault } => Refusal {
+                number: fault.number(),
+                place: 6 + 4 * stage as usize,
+            },
         }
     }
 }

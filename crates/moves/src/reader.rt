@@ -31,7 +31,9 @@ fn read_count(bytes: &[u8]) -> Result<u16, MoveListFault>
     ensures { λ r. ⌜ r ≡ countOf (now (bytes .entry)) ⌝ }
 {
     let [m0, m1, m2, v1, v0, c1, c0, ..] = bytes else {
-        return Err(MoveListFault::ShortHead { handed: bytes.len() });
+        return Err(MoveListFault::ShortHead {
+            handed: bytes.len(),
+        });
     };
     if *m0 != b'C' || *m1 != b'F' || *m2 != b'M' {
         return Err(MoveListFault::Mark);
@@ -54,11 +56,19 @@ pub fn read_moves(bytes: &[u8]) -> Result<(MoveListParts<'_>, &[u8]), MoveListFa
     let count = read_count(bytes)?;
     let size = 2 * count as usize;
     if bytes.len() < 7 + size {
-        return Err(MoveListFault::ShortMoves { handed: bytes.len() });
+        return Err(MoveListFault::ShortMoves {
+            handed: bytes.len(),
+        });
     }
     let (entries, rest) = bytes[7..].split_at(size);
     match first_fault(entries, count) {
         Some(fault) => Err(fault),
-        None => Ok((MoveListParts { count, bytes: entries }, rest)),
+        None => Ok((
+            MoveListParts {
+                count,
+                bytes: entries,
+            },
+            rest,
+        )),
     }
 }

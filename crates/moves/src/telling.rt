@@ -32,11 +32,26 @@ impl MoveListFault {
         ensures { λ r. ⌜ r ≡ listRefusal self ⌝ }
     {
         match self {
-            MoveListFault::ShortHead { handed } => Refusal { number: 17, place: handed },
-            MoveListFault::Mark => Refusal { number: 18, place: 0 },
-            MoveListFault::Version => Refusal { number: 19, place: 3 },
-            MoveListFault::Count => Refusal { number: 20, place: 5 },
-            MoveListFault::ShortMoves { handed } => Refusal { number: 21, place: handed },
+            MoveListFault::ShortHead { handed } => Refusal {
+                number: 17,
+                place: handed,
+            },
+            MoveListFault::Mark => Refusal {
+                number: 18,
+                place: 0,
+            },
+            MoveListFault::Version => Refusal {
+                number: 19,
+                place: 3,
+            },
+            MoveListFault::Count => Refusal {
+                number: 20,
+                place: 5,
+            },
+            MoveListFault::ShortMoves { handed } => Refusal {
+                number: 21,
+                place: handed,
+            },
             MoveListFault::Move { index, fault } => Refusal {
                 number: fault.number(),
                 place: 7 + 2 * index as usize + fault.offset() as usize,

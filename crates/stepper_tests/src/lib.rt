@@ -1,8 +1,6 @@
-//! Tests of the unit, the memories, the stepper and whole executions.
+//! Tests of the stepper and of whole executions.
 #[cfg(test)]
 mod instruction_tests;
-#[cfg(test)]
-mod memory_tests;
 #[cfg(test)]
 mod programs;
 #[cfg(test)]
@@ -11,5 +9,3 @@ mod run_tests;
 mod step_tests;
 #[cfg(test)]
 mod trap_tests;
-#[cfg(test)]
-mod unit_tests;

@@ -1,5 +1,7 @@
 //! Units: what computes the outcome of an operation on two words.
 pub use outcome::Outcome;
+pub use outcome::OutcomeDebug;
+pub use outcome::OutcomePartialEq;
 pub use table::TableUnit;
 pub use table::WordTable;
 pub use traits::Unit;

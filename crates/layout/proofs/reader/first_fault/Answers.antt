@@ -29,9 +29,10 @@ loop-stage-again c =
     let more = take-rest bs 4 in
     let set : c .from-be-bytes-set .result ≡ fourAt (c .loop-stage .rest .now) 0 = search needs in
     let e = sym (c .in-None .ensures tt ∙ ap (setFault n k) set) in
-    let long : length (take (length (c .loop-stage .rest .now) - 4) (drop 4 (c .loop-stage .rest .now))) ≡ 4 * (c .args .stages - (c .loop-stage .stage + 1)) = omega (arith, ap length more, length-drop 4 bs, c .loop-stage .inv .0) in
-    (long,
-     ap (λ (m : ℕ). faultIn n m (k + 1) (take (length bs - 4) (drop 4 bs))) less
-     ∙ ap (faultIn n (n - k - 1) (k + 1)) more
-     ∙ first-later (setFaultAt n) 4 (n - k) k bs left e
-     ∙ c .loop-stage .inv .1)
+    let long : length (take (length (c .loop-stage .rest .now) - 4) (drop 4 (c .loop-stage .rest .now))) ≡ 4 * (c .args .stages - (c .loop-stage .stage + 1)) = omega (arith, ap length more, length-drop 4 bs, c .loop-stage .inv .0) in (
+      long,
+      ap (λ (m : ℕ). faultIn n m (k + 1) (take (length bs - 4) (drop 4 bs))) less
+          ∙ ap (faultIn n (n - k - 1) (k + 1)) more
+          ∙ first-later (setFaultAt n) 4 (n - k) k bs left e
+          ∙ c .loop-stage .inv .1,
+    )

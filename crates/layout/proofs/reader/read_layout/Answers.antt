@@ -33,4 +33,5 @@ returns-in-None c =
     let told : List ℕ → List ℕ → Contents = λ xs ys. record { sets = setsOf n xs; rest = ys } in
     record {
       value = decided bs n None (c .in-Continue-stages .ensures tt) (omega arith) found ∙ ap Ok (ap (λ (xs : List ℕ). told xs (drop (6 + 4 * n) bs)) (sym front) ∙ ap (told (c .split-at .result .0 .now)) (sym back));
-      read = (b .low, b .high, c .split-at .ensures .front-len, ap (λ (o : Option LayoutFault). not (isSome o)) (sym (c .in-None .ensures tt))) }
+      read = (b .low, b .high, c .split-at .ensures .front-len, ap (λ (o : Option LayoutFault). not (isSome o)) (sym (c .in-None .ensures tt)));
+    }

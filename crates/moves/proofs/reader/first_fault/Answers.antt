@@ -20,9 +20,10 @@ loop-index-again c =
     let left : 0 < c .args .count - c .loop-index .index = omega arith in
     let less : c .args .count - (c .loop-index .index + 1) ≡ c .args .count - c .loop-index .index - 1 = omega arith in
     let more = take-rest bs 2 in
-    let long : length (take (length (c .loop-index .rest .now) - 2) (drop 2 (c .loop-index .rest .now))) ≡ 2 * (c .args .count - (c .loop-index .index + 1)) = omega (arith, ap length more, length-drop 2 bs, c .loop-index .inv .0) in
-    (long,
-     ap (λ (n : ℕ). faultIn n (k + 1) (take (length bs - 2) (drop 2 bs))) less
-     ∙ ap (faultIn (c .args .count - k - 1) (k + 1)) more
-     ∙ fault-later (c .args .count - k) k bs (c .in-Ok .field-0) left (sym (c .in-Ok .ensures tt))
-     ∙ c .loop-index .inv .1)
+    let long : length (take (length (c .loop-index .rest .now) - 2) (drop 2 (c .loop-index .rest .now))) ≡ 2 * (c .args .count - (c .loop-index .index + 1)) = omega (arith, ap length more, length-drop 2 bs, c .loop-index .inv .0) in (
+      long,
+      ap (λ (n : ℕ). faultIn n (k + 1) (take (length bs - 2) (drop 2 bs))) less
+          ∙ ap (faultIn (c .args .count - k - 1) (k + 1)) more
+          ∙ fault-later (c .args .count - k) k bs (c .in-Ok .field-0) left (sym (c .in-Ok .ensures tt))
+          ∙ c .loop-index .inv .1,
+    )

@@ -32,4 +32,5 @@ returns-in-None c =
     let told : List ℕ → List ℕ → Contents = λ xs ys. record { moves = listOf n xs; rest = ys } in
     record {
       value = decided bs n None (c .in-Continue-count .ensures tt) (omega arith) found ∙ ap Ok (ap (λ (xs : List ℕ). told xs (drop (7 + 2 * n) bs)) (sym front) ∙ ap (told (c .split-at .result .0 .now)) (sym back));
-      read = (few bs n (c .in-Continue-count .ensures tt), c .split-at .ensures .front-len, ap (λ (o : Option MoveListFault). not (isSome o)) (sym (c .in-None .ensures tt))) }
+      read = (few bs n (c .in-Continue-count .ensures tt), c .split-at .ensures .front-len, ap (λ (o : Option MoveListFault). not (isSome o)) (sym (c .in-None .ensures tt)));
+    }

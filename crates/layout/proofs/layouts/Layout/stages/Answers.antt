@@ -6,4 +6,5 @@ pub returns : need.returns
 returns c = record {
   value = sym (length-sets (c .args .self .now .parts .stages) (c .args .self .now .parts .sets .now));
   low = c .args .self .now .read .0;
-  high = c .args .self .now .read .1 }
+  high = c .args .self .now .read .1;
+}
