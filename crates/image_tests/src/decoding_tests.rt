@@ -173,45 +173,25 @@ fn fault_of(record: Record) -> Option<(u8, u8)> {
 
 #[test]
 fn faults_of_a_record() -> Result<(), Fail> {
-    let record = Record {
-        operation: 4,
-        destination: 0,
-        first: 15,
-        second: 0,
-        literal: 0,
-    };
-    let found = [
-        fault_of(record),
-        fault_of(Record {
-            operation: 8,
-            ..record
-        }),
-        fault_of(Record {
-            destination: 1,
-            ..record
-        }),
-        fault_of(Record {
-            first: 16,
-            ..record
-        }),
-        fault_of(Record {
-            second: 1,
-            ..record
-        }),
-        fault_of(Record {
-            operation: 0,
-            first: 0,
-            literal: 1,
-            ..record
-        }),
+    let table = [
+        ((4, 0, 15, 0, 0), None),
+        ((8, 0, 15, 0, 0), Some((7, 0))),
+        ((4, 1, 15, 0, 0), Some((9, 1))),
+        ((4, 0, 16, 0, 0), Some((8, 2))),
+        ((4, 0, 15, 1, 0), Some((9, 3))),
+        ((6, 0, 15, 16, 0), Some((8, 3))),
+        ((0, 0, 0, 0, 1), Some((9, 4))),
     ];
-    let expected = [
-        None,
-        Some((7, 0)),
-        Some((9, 1)),
-        Some((8, 2)),
-        Some((9, 3)),
-        Some((9, 4)),
-    ];
-    check_eq(found, expected).note("number, and where the field begins")
+    for (fields, expected) in table {
+        let (operation, destination, first, second, literal) = fields;
+        let record = Record {
+            operation,
+            destination,
+            first,
+            second,
+            literal,
+        };
+        check_eq((fields, fault_of(record)), (fields, expected)).note("number, offset")?;
+    }
+    Ok(())
 }

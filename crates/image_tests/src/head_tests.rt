@@ -144,72 +144,15 @@ fn most_records_short_or_too_many(rt: LibcRuntime) -> Result<(), Fail> {
 
 #[test]
 fn bytes_after_the_image() -> Result<(), Fail> {
-    let bytes = [
-        67,
-        70,
-        80,
-        0,
-        1,
-        0,
-        1,
-        0,
-        0,
-        0,
-        0,
-        0,
-        0,
-        0,
-        0,
-        0,
-        0,
-        255,
-        0,
-        67,
-        7,
-    ];
-    let (_, rest) = read_image(&bytes)?;
+    let bytes = b"CFP\0\x01\0\x01\0\0\0\0\0\0\0\0\0\0\xff\0C\x07";
+    let (_, rest) = read_image(bytes)?;
     check_eq(rest, &[255u8, 0, 67, 7]).note("four bytes follow, unread")
 }
 
 #[test]
 fn an_image_after_the_image() -> Result<(), Fail> {
-    let bytes = [
-        67,
-        70,
-        80,
-        0,
-        1,
-        0,
-        1,
-        0,
-        0,
-        0,
-        0,
-        0,
-        0,
-        0,
-        0,
-        0,
-        0,
-        67,
-        70,
-        80,
-        0,
-        1,
-        0,
-        1,
-        0,
-        0,
-        1,
-        0,
-        0,
-        0,
-        0,
-        0,
-        0,
-        5,
-    ];
-    let (_, rest) = read_image(&bytes)?;
+    let bytes = b"CFP\0\x01\0\x01\0\0\0\0\0\0\0\0\0\0CFP\0\x01\0\x01\0\0\x01\0\0\0\0\0\0\x05";
+    let (_, rest) = read_image(bytes)?;
     check_eq((rest.len(), refusal_of(rest)), (17, None)).note("the second image follows")
 }
 

@@ -21,41 +21,21 @@ pub fn refusal_of(bytes: &[u8]) -> Option<(u8, usize)> {
 
 /// The image of one record, with handler 0. The record begins at byte 9.
 pub fn one(record: [u8; 8]) -> [u8; 17] {
-    let [o, d, f, s, a, b, c, e] = record;
-    [67, 70, 80, 0, 1, 0, 1, 0, 0, o, d, f, s, a, b, c, e]
+    let mut bytes = *b"CFP\0\x01\0\x01\0\0\0\0\0\0\0\0\0\0";
+    for at in 0..8 {
+        bytes[9 + at] = record[at];
+    }
+    bytes
 }
 
 /// The image of two records, with handler 1. They begin at bytes 9 and 17.
 pub fn two(lower: [u8; 8], higher: [u8; 8]) -> [u8; 25] {
-    let [o, d, f, s, a, b, c, e] = lower;
-    let [p, g, h, t, i, j, k, l] = higher;
-    [
-        67,
-        70,
-        80,
-        0,
-        1,
-        0,
-        2,
-        0,
-        1,
-        o,
-        d,
-        f,
-        s,
-        a,
-        b,
-        c,
-        e,
-        p,
-        g,
-        h,
-        t,
-        i,
-        j,
-        k,
-        l,
-    ]
+    let mut bytes = *b"CFP\0\x01\0\x02\0\x01\0\0\0\0\0\0\0\0\0\0\0\0\0\0\0\0";
+    for at in 0..8 {
+        bytes[9 + at] = lower[at];
+        bytes[17 + at] = higher[at];
+    }
+    bytes
 }
 
 /// A head with these numbers, and so many records that halt.
@@ -69,12 +49,21 @@ pub fn halts(heap: Global, count: u16, handler: u16, records: u16) -> Result<Vec
     Ok(bytes)
 }
 
+/// A head, and one record that halts.
+fn headed(head: [u8; 9]) -> [u8; 17] {
+    let mut bytes = [0; 17];
+    for at in 0..9 {
+        bytes[at] = head[at];
+    }
+    bytes
+}
+
 /// Each head, before one record that halts, has this answer.
 pub fn heads_are(table: &[([u8; 9], Option<(u8, usize)>)]) -> Result<(), Fail> {
     for (head, expected) in table {
-        let [m0, m1, m2, v1, v0, c1, c0, h1, h0] = *head;
-        let bytes = [m0, m1, m2, v1, v0, c1, c0, h1, h0, 0, 0, 0, 0, 0, 0, 0, 0];
-        check_eq((*head, refusal_of(&bytes)), (*head, *expected)).note("a head, one record")?;
+        check_eq((*head, refusal_of(&headed(*head))), (*head, *expected)).note(
+            "a head, one record",
+        )?;
     }
     Ok(())
 }

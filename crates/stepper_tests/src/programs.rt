@@ -28,7 +28,7 @@ pub fn line_of(record: Retirement) -> Line {
 }
 
 /// The image of the rows.
-fn image_of(heap: Global, handler: u16, rows: &[Row]) -> Result<Vec<u8>, Fail> {
+pub fn image_of(heap: Global, handler: u16, rows: &[Row]) -> Result<Vec<u8>, Fail> {
     let [c1, c0] = u16::try_from(rows.len())?.to_be_bytes();
     let [h1, h0] = handler.to_be_bytes();
     let mut bytes = [67, 70, 80, 0, 1, c1, c0, h1, h0].to_vec(heap)?;

@@ -14,42 +14,16 @@ use unit::WholeNumber;
 use unit::WholeUnit;
 
 /// Set r1 to 3, Halt.
-const TWO: [u8; 25] = [
-    67,
-    70,
-    80,
-    0,
-    1,
-    0,
-    2,
-    0,
-    0,
-    2,
-    1,
-    0,
-    0,
-    0,
-    0,
-    0,
-    3,
-    0,
-    0,
-    0,
-    0,
-    0,
-    0,
-    0,
-    0,
-];
+const TWO: [u8; 25] = *b"CFP\0\x01\0\x02\0\0\x02\x01\0\0\0\0\0\x03\0\0\0\0\0\0\0\0";
 
 /// A place of the log that no step has filled.
 const STAYS: Line = (4242, 3, 15, 24);
 
 #[test]
 fn endless_loop() -> Result<(), Fail> {
-    let bytes = [67, 70, 80, 0, 1, 0, 1, 0, 0, 1, 0, 0, 0, 0, 0, 0, 0];
+    let bytes = b"CFP\0\x01\0\x01\0\0\x01\0\0\0\0\0\0\0";
     let lines = [(0, 0, 0, 0); 2000];
-    leaves(&bytes, &mut [], &mut [UNUSED; 2000], (2000, false), &lines).note("a jump to itself")
+    leaves(bytes, &mut [], &mut [UNUSED; 2000], (2000, false), &lines).note("a jump to itself")
 }
 
 #[test]
@@ -94,11 +68,11 @@ fn bytes_after_the_image() -> Result<(), Fail> {
 
 #[test]
 fn refused_image() -> Result<(), Fail> {
-    let mut bytes = TWO;
-    bytes[17] = 7;
+    // Store r0 at 0, and a record that is no instruction
+    let bytes = b"CFP\0\x01\0\x02\0\0\x06\0\0\0\0\0\0\0\x07\0\0\0\0\0\0\0";
     let mut words = [1, 2, 3];
     let mut log = [UNUSED; 2];
-    let Err(fault) = execute(&bytes, &WholeNumber, &mut words, &mut Log::new(&mut log)) else {
+    let Err(fault) = execute(bytes, &WholeNumber, &mut words, &mut Log::new(&mut log)) else {
         return Err(Fail::new("operation 7 is not in the table"));
     };
     let refusal = fault.refusal();

@@ -1,5 +1,8 @@
 //! Single steps, and the state between them.
+use crate::programs::HALT;
 use crate::programs::Line;
+use crate::programs::Row;
+use crate::programs::image_of;
 use crate::programs::line_of;
 use image::Image;
 use image::ImageFaultDebug;
@@ -9,6 +12,7 @@ use memory::OwnMemory;
 use memory::OwnReadable;
 use memory::OwnWords;
 use memory::Readable;
+use std::alloc::Global;
 use std::test::*;
 use stepper::Stepper;
 use unit::WholeNumber;
@@ -35,9 +39,14 @@ fn line_or_refusal(stepper: &mut Stepper<'_>, memory: &mut OwnWords) -> Result<L
     }
 }
 
-/// From the start, the state before each step and the step's answer.
-fn steps_are(bytes: &[u8], table: &[(State, Result<Line, u8>)]) -> Result<(), Fail> {
-    let (parts, _) = read_image(bytes)?;
+/// The state before each step of the rows, from the start, and the step's answer.
+fn steps_are(
+    heap: Global,
+    (handler, rows): (u16, &[Row]),
+    table: &[(State, Result<Line, u8>)],
+) -> Result<(), Fail> {
+    let bytes = image_of(heap, handler, rows)?;
+    let (parts, _) = read_image(&bytes)?;
     let mut stepper = Stepper::new(Image { parts });
     let mut memory = OwnWords::new();
     for row in table {
@@ -48,73 +57,20 @@ fn steps_are(bytes: &[u8], table: &[(State, Result<Line, u8>)]) -> Result<(), Fa
     Ok(())
 }
 
-/// Set r1 to 8; Store r1 at 63; Load r2 from 64, which traps; a Halt; the handler: Load r1 from 63;
-/// Halt.
-const PROGRAM: [u8; 57] = [
-    67,
-    70,
-    80,
-    0,
-    1,
-    0,
-    6,
-    0,
-    4,
-    2,
-    1,
-    0,
-    0,
-    0,
-    0,
-    0,
-    8,
-    6,
-    0,
-    1,
-    1,
-    0,
-    0,
-    0,
-    55,
-    5,
-    2,
-    1,
-    0,
-    0,
-    0,
-    0,
-    56,
-    0,
-    0,
-    0,
-    0,
-    0,
-    0,
-    0,
-    0,
-    5,
-    1,
-    0,
-    0,
-    0,
-    0,
-    0,
-    63,
-    0,
-    0,
-    0,
-    0,
-    0,
-    0,
-    0,
-    0,
-];
-
 #[test]
-fn states_of_a_program() -> Result<(), Fail> {
+fn states_of_a_program(rt: LibcRuntime) -> Result<(), Fail> {
+    let rows = [
+        (2, 1, 0, 0, 8),
+        (6, 0, 1, 1, 55),
+        (5, 2, 1, 0, 56),
+        HALT,
+        (5, 1, 0, 0, 63),
+        HALT,
+    ];
     let end = (6, true, [8, 0, 131074], [Some(0), Some(8)]);
     steps_are(
-        &PROGRAM,
+        rt.alloc(),
+        (4, &rows),
         &[
             ((0, false, [0, 0, 0], [Some(0), Some(0)]), Ok((0, 1, 1, 8))),
             ((1, false, [8, 0, 0], [Some(0), Some(0)]), Ok((1, 2, 63, 8))),
@@ -136,47 +92,12 @@ fn states_of_a_program() -> Result<(), Fail> {
     )
 }
 
-/// Jump to 70,000; Halt; the handler: Store r15 at 0.
-const LONG_JUMP: [u8; 33] = [
-    67,
-    70,
-    80,
-    0,
-    1,
-    0,
-    3,
-    0,
-    2,
-    1,
-    0,
-    0,
-    0,
-    0,
-    1,
-    17,
-    112,
-    0,
-    0,
-    0,
-    0,
-    0,
-    0,
-    0,
-    0,
-    6,
-    0,
-    0,
-    15,
-    0,
-    0,
-    0,
-    0,
-];
-
 #[test]
-fn place_after_a_trap() -> Result<(), Fail> {
+fn place_after_a_trap(rt: LibcRuntime) -> Result<(), Fail> {
+    let rows = [(1, 0, 0, 0, 70000), HALT, (6, 0, 0, 15, 0)];
     steps_are(
-        &LONG_JUMP,
+        rt.alloc(),
+        (2, &rows),
         &[
             ((0, false, [0, 0, 0], [Some(0), Some(0)]), Ok((0, 0, 0, 0))),
             (
@@ -199,14 +120,12 @@ fn place_after_a_trap() -> Result<(), Fail> {
     )
 }
 
-/// Halt, with handler 0.
-const ONE_HALT: [u8; 17] = [67, 70, 80, 0, 1, 0, 1, 0, 0, 0, 0, 0, 0, 0, 0, 0, 0];
-
 #[test]
-fn refused_after_the_halt() -> Result<(), Fail> {
+fn refused_after_the_halt(rt: LibcRuntime) -> Result<(), Fail> {
     let halted = (1, true, [0; 3], [Some(0); 2]);
     steps_are(
-        &ONE_HALT,
+        rt.alloc(),
+        (0, &[HALT]),
         &[
             ((0, false, [0; 3], [Some(0); 2]), Ok((0, 4, 0, 0))),
             (halted, Err(30)),
@@ -217,7 +136,7 @@ fn refused_after_the_halt() -> Result<(), Fail> {
 
 #[test]
 fn every_register_is_0_at_the_start() -> Result<(), Fail> {
-    let (parts, _) = read_image(&ONE_HALT)?;
+    let (parts, _) = read_image(b"CFP\0\x01\0\x01\0\0\0\0\0\0\0\0\0\0")?;
     let stepper = Stepper::new(Image { parts });
     for number in 0..16u8 {
         check_eq(
