@@ -5,6 +5,8 @@ ghost use denote.Ref.{now, name};
 ghost use Rattle.stepper.specs.View.{Ran};
 ghost use Rattle.execution.specs.Executed.{executed};
 pub use answers::Execution;
+pub use answers::ExecutionDebug;
+pub use answers::ExecutionPartialEq;
 use effect::Retirement;
 use image::Image;
 use image::ImageFault;
