@@ -6,10 +6,10 @@ use std::alloc::Global;
 use std::test::*;
 
 /// A record that halts.
-pub const HALT: [u8; 8] = [0; 8];
+pub(crate) const HALT: [u8; 8] = [0; 8];
 
 /// The number and the byte place of the refusal; none where the bytes are read.
-pub fn refusal_of(bytes: &[u8]) -> Option<(u8, usize)> {
+pub(crate) fn refusal_of(bytes: &[u8]) -> Option<(u8, usize)> {
     match read_image(bytes) {
         Ok(_) => None,
         Err(fault) => {
@@ -20,7 +20,7 @@ pub fn refusal_of(bytes: &[u8]) -> Option<(u8, usize)> {
 }
 
 /// The image of one record, with handler 0. The record begins at byte 9.
-pub fn one(record: [u8; 8]) -> [u8; 17] {
+pub(crate) fn one(record: [u8; 8]) -> [u8; 17] {
     let mut bytes = *b"CFP\0\x01\0\x01\0\0\0\0\0\0\0\0\0\0";
     for at in 0..8 {
         bytes[9 + at] = record[at];
@@ -29,7 +29,7 @@ pub fn one(record: [u8; 8]) -> [u8; 17] {
 }
 
 /// The image of two records, with handler 1. They begin at bytes 9 and 17.
-pub fn two(lower: [u8; 8], higher: [u8; 8]) -> [u8; 25] {
+pub(crate) fn two(lower: [u8; 8], higher: [u8; 8]) -> [u8; 25] {
     let mut bytes = *b"CFP\0\x01\0\x02\0\x01\0\0\0\0\0\0\0\0\0\0\0\0\0\0\0\0";
     for at in 0..8 {
         bytes[9 + at] = lower[at];
@@ -39,7 +39,12 @@ pub fn two(lower: [u8; 8], higher: [u8; 8]) -> [u8; 25] {
 }
 
 /// A head with these numbers, and so many records that halt.
-pub fn halts(heap: Global, count: u16, handler: u16, records: u16) -> Result<Vec<u8>, AllocError> {
+pub(crate) fn halts(
+    heap: Global,
+    count: u16,
+    handler: u16,
+    records: u16,
+) -> Result<Vec<u8>, AllocError> {
     let [c1, c0] = count.to_be_bytes();
     let [h1, h0] = handler.to_be_bytes();
     let mut bytes = [67, 70, 80, 0, 1, c1, c0, h1, h0].to_vec(heap)?;
@@ -59,7 +64,7 @@ fn headed(head: [u8; 9]) -> [u8; 17] {
 }
 
 /// Each head, before one record that halts, has this answer.
-pub fn heads_are(table: &[([u8; 9], Option<(u8, usize)>)]) -> Result<(), Fail> {
+pub(crate) fn heads_are(table: &[([u8; 9], Option<(u8, usize)>)]) -> Result<(), Fail> {
     for (head, expected) in table {
         check_eq((*head, refusal_of(&headed(*head))), (*head, *expected)).note(
             "a head, one record",
@@ -69,7 +74,7 @@ pub fn heads_are(table: &[([u8; 9], Option<(u8, usize)>)]) -> Result<(), Fail> {
 }
 
 /// Each record, alone in an image, is refused with this number and this byte place.
-pub fn refused(table: &[([u8; 8], u8, usize)]) -> Result<(), Fail> {
+pub(crate) fn refused(table: &[([u8; 8], u8, usize)]) -> Result<(), Fail> {
     for (record, number, place) in table {
         let told = (*record, refusal_of(&one(*record)));
         check_eq(told, (*record, Some((*number, *place)))).note("a record, alone")?;
@@ -78,7 +83,7 @@ pub fn refused(table: &[([u8; 8], u8, usize)]) -> Result<(), Fail> {
 }
 
 /// Each two records, in an image, are refused with this number and this byte place.
-pub fn refused_pairs(table: &[([u8; 8], [u8; 8], u8, usize)]) -> Result<(), Fail> {
+pub(crate) fn refused_pairs(table: &[([u8; 8], [u8; 8], u8, usize)]) -> Result<(), Fail> {
     for (lower, higher, number, place) in table {
         let told = (*lower, *higher, refusal_of(&two(*lower, *higher)));
         let expected = (*lower, *higher, Some((*number, *place)));
@@ -88,7 +93,7 @@ pub fn refused_pairs(table: &[([u8; 8], [u8; 8], u8, usize)]) -> Result<(), Fail
 }
 
 /// Each record, alone in an image, is read.
-pub fn accepted(table: &[[u8; 8]]) -> Result<(), Fail> {
+pub(crate) fn accepted(table: &[[u8; 8]]) -> Result<(), Fail> {
     for record in table {
         check_eq((*record, refusal_of(&one(*record))), (*record, None)).note("a record, alone")?;
     }

@@ -10,5 +10,6 @@ pub use numbers::UnitOp;
 mod instructions;
 mod numbers;
 mod operands;
+mod operations;
 mod registers;
 mod unit_ops;

@@ -10,25 +10,25 @@ use unit::WholeNumber;
 use unit::WholeUnit;
 
 /// A record: operation, destination, first, second, literal.
-pub type Row = (u8, u8, u8, u8, u32);
+pub(crate) type Row = (u8, u8, u8, u8, u32);
 
 /// A retirement record: place, kind, target, word.
-pub type Line = (u32, u8, u32, u32);
+pub(crate) type Line = (u32, u8, u32, u32);
 
 /// What a log holds before an execution.
-pub const UNUSED: Retirement = Retirement {
+pub(crate) const UNUSED: Retirement = Retirement {
     place: 4242,
     action: Action::Trap { word: 24 },
 };
 
-pub const HALT: Row = (0, 0, 0, 0, 0);
+pub(crate) const HALT: Row = (0, 0, 0, 0, 0);
 
-pub fn line_of(record: Retirement) -> Line {
+pub(crate) fn line_of(record: Retirement) -> Line {
     (record.place, record.kind(), record.target(), record.word())
 }
 
 /// The image of the rows.
-pub fn image_of(heap: Global, handler: u16, rows: &[Row]) -> Result<Vec<u8>, Fail> {
+pub(crate) fn image_of(heap: Global, handler: u16, rows: &[Row]) -> Result<Vec<u8>, Fail> {
     let [c1, c0] = u16::try_from(rows.len())?.to_be_bytes();
     let [h1, h0] = handler.to_be_bytes();
     let mut bytes = [67, 70, 80, 0, 1, c1, c0, h1, h0].to_vec(heap)?;
@@ -53,7 +53,7 @@ fn difference(log: &[Retirement], lines: &[Line]) -> Option<(Line, Line)> {
 }
 
 /// The bytes, executed over the words, make so many steps, halt or not, and leave these lines.
-pub fn leaves(
+pub(crate) fn leaves(
     bytes: &[u8],
     words: &mut [u32],
     log: &mut [Retirement],
@@ -67,7 +67,7 @@ pub fn leaves(
 }
 
 /// The same of the image of the rows.
-pub fn rows_leave(
+pub(crate) fn rows_leave(
     heap: Global,
     (handler, rows): (u16, &[Row]),
     words: &mut [u32],
@@ -80,7 +80,7 @@ pub fn rows_leave(
 }
 
 /// The rows, executed over sixteen words that are 0, halt after these lines.
-pub fn yields(heap: Global, handler: u16, rows: &[Row], lines: &[Line]) -> Result<(), Fail> {
+pub(crate) fn yields(heap: Global, handler: u16, rows: &[Row], lines: &[Line]) -> Result<(), Fail> {
     let told = (lines.len(), true);
     rows_leave(
         heap,
