@@ -1,0 +1,308 @@
+//! Layouts: the six bytes that they begin with, the sets, and what a stage can execute.
+use crate::told::Told;
+use crate::told::add_noise;
+use crate::told::told;
+use crate::told::two_stages;
+use layout::Layout;
+use layout::LayoutFaultDebug;
+use layout::read_layout;
+use std::test::*;
+
+fn refusal_of(bytes: &[u8]) -> Told {
+    match read_layout(bytes) {
+        Ok(_) => None,
+        Err(fault) => told(fault.refusal()),
+    }
+}
+
+/// The layout of sixteen stages, of which one byte is not 0.
+fn sixteen(at: usize, byte: u8) -> [u8; 70] {
+    let mut bytes = headed(*b"CFL\0\x01\x10");
+    if at < 70 {
+        bytes[at] = byte;
+    }
+    bytes
+}
+
+/// A head, and sixteen empty sets.
+fn headed(head: [u8; 6]) -> [u8; 70] {
+    let mut bytes = [0; 70];
+    for at in 0..6 {
+        bytes[at] = head[at];
+    }
+    bytes
+}
+
+/// Each head, before sixteen empty sets, has this answer.
+fn heads_are(table: &[([u8; 6], Told)]) -> Result<(), Fail> {
+    for (head, expected) in table {
+        let found = refusal_of(&headed(*head));
+        check_eq((*head, found), (*head, *expected)).note("a head, sixteen empty sets")?;
+    }
+    Ok(())
+}
+
+/// The sets of the bottom and the top of two stages have this answer.
+fn sets_are(table: &[(u32, u32, Told)]) -> Result<(), Fail> {
+    for (bottom, top, expected) in table {
+        let case = (*bottom, *top);
+        let found = refusal_of(&two_stages(*bottom, *top));
+        check_eq((case, found), (case, *expected)).note("bottom, top")?;
+    }
+    Ok(())
+}
+
+#[test]
+fn every_shorter_length() -> Result<(), Fail> {
+    let bytes = two_stages(4, 4);
+    for length in 0..14usize {
+        let number = if length < 6 { 10 } else { 14 };
+        let found = refusal_of(&bytes[0..length]);
+        check_eq(found, Some((number, length))).note("the place is the length")?;
+    }
+    check_eq(refusal_of(&bytes), None).note("nothing is missing")
+}
+
+#[test]
+fn every_shorter_length_of_sixteen_stages() -> Result<(), Fail> {
+    let bytes = headed(*b"CFL\0\x01\x10");
+    for length in 6..70usize {
+        let found = refusal_of(&bytes[0..length]);
+        check_eq(found, Some((14, length))).note("the place is the length")?;
+    }
+    check_eq(refusal_of(&bytes), None).note("nothing is missing")
+}
+
+#[test]
+fn each_letter_of_the_mark() -> Result<(), Fail> {
+    heads_are(
+        &[
+            (*b"CFL\0\x01\x02", None),
+            (*b"BFL\0\x01\x02", Some((11, 0))),
+            (*b"cFL\0\x01\x02", Some((11, 0))),
+            (*b"CEL\0\x01\x02", Some((11, 0))),
+            (*b"CfL\0\x01\x02", Some((11, 0))),
+            (*b"CFK\0\x01\x02", Some((11, 0))),
+            (*b"CFM\0\x01\x02", Some((11, 0))),
+            (*b"CFP\0\x01\x02", Some((11, 0))),
+            (*b"LFC\0\x01\x02", Some((11, 0))),
+            ([0; 6], Some((11, 0))),
+            ([255; 6], Some((11, 0))),
+        ],
+    ).note("the place is 0, whichever letter is wrong")
+}
+
+#[test]
+fn versions() -> Result<(), Fail> {
+    heads_are(
+        &[
+            (*b"CFL\0\0\x02", Some((12, 3))),
+            (*b"CFL\0\x01\x02", None),
+            (*b"CFL\0\x02\x02", Some((12, 3))),
+            (*b"CFL\x01\0\x02", Some((12, 3))),
+            (*b"CFL\x01\x01\x02", Some((12, 3))),
+            (*b"CFL\xff\xff\x02", Some((12, 3))),
+        ],
+    ).note("0, 1, 2, 256, 257 and 65,535")
+}
+
+#[test]
+fn numbers_of_stages() -> Result<(), Fail> {
+    for stages in 0..=255u8 {
+        let known = stages > 1 && stages < 17;
+        let expected = if known { None } else { Some((13, 5)) };
+        let found = refusal_of(&headed([67, 70, 76, 0, 1, stages]));
+        check_eq((stages, found), (stages, expected)).note("2 to 16")?;
+    }
+    Ok(())
+}
+
+#[test]
+fn first_question_decides() -> Result<(), Fail> {
+    heads_are(
+        &[
+            (*b"CFM\0\x02\x01", Some((11, 0))),
+            (*b"CFL\0\x02\x01", Some((12, 3))),
+            (*b"CFL\0\x01\x01", Some((13, 5))),
+        ],
+    ).note("mark, version, stages")?;
+    check_eq(refusal_of(b"CFM\0\x02"), Some((10, 5))).note("10 before 11 and 12")?;
+    check_eq(refusal_of(b"CFL\0\x01\x11"), Some((13, 5))).note("13 before 14")?;
+    let bytes = two_stages(1, 1);
+    check_eq(refusal_of(&bytes[0..13]), Some((14, 13))).note("14 before 15")
+}
+
+#[test]
+fn some_bits_of_the_bottom_set() -> Result<(), Fail> {
+    sets_are(
+        &[
+            (0, 0, None),
+            (1, 0, Some((15, 6))),
+            (2, 0, Some((15, 6))),
+            (4, 0, None),
+            (16, 0, None),
+            (32, 0, Some((16, 6))),
+            (64, 0, Some((16, 6))),
+            (96, 0, Some((16, 6))),
+            (128, 0, Some((15, 6))),
+            (32768, 0, Some((15, 6))),
+            (65536, 0, None),
+            (2147483648, 0, None),
+            (4294901788, 0, None),
+            (4294967295, 0, Some((15, 6))),
+        ],
+    ).note("bits 0, 1, 2, 4, 5, 6, 7, 15, 16, 31 and several")
+}
+
+#[test]
+fn some_bits_of_the_top_set() -> Result<(), Fail> {
+    sets_are(
+        &[
+            (0, 1, Some((15, 10))),
+            (0, 2, Some((15, 10))),
+            (0, 4, None),
+            (0, 32, None),
+            (0, 64, None),
+            (0, 128, Some((15, 10))),
+            (0, 32768, Some((15, 10))),
+            (0, 65536, None),
+            (0, 2147483648, None),
+            (0, 4294901884, None),
+            (0, 4294967295, Some((15, 10))),
+        ],
+    ).note("bits 0, 1, 2, 5, 6, 7, 15, 16, 31 and several")
+}
+
+/// May bit k of a set be 1: in the top stage, and below it?
+fn allowed(bit: u32) -> (bool, bool) {
+    let heard = (bit > 1 && bit < 7) || bit > 15;
+    (heard, heard && bit != 5 && bit != 6)
+}
+
+#[test]
+fn every_bit() -> Result<(), Fail> {
+    for bit in 0..32u32 {
+        let set = 1u32 << bit;
+        let found = (
+            refusal_of(&two_stages(0, set)).is_none(),
+            refusal_of(&two_stages(set, 0)).is_none(),
+        );
+        check_eq((bit, found), (bit, allowed(bit))).note("top, bottom")?;
+    }
+    Ok(())
+}
+
+#[test]
+fn lower_stages_first() -> Result<(), Fail> {
+    sets_are(
+        &[
+            (33, 0, Some((15, 6))),
+            (192, 0, Some((15, 6))),
+            (0, 33, Some((15, 10))),
+            (1, 1, Some((15, 6))),
+            (32, 1, Some((16, 6))),
+            (64, 128, Some((16, 6))),
+            (32, 32, Some((16, 6))),
+            (4, 96, None),
+            (4, 97, Some((15, 10))),
+        ],
+    ).note("for each stage 15, then 16")
+}
+
+#[test]
+fn sets_of_sixteen_stages() -> Result<(), Fail> {
+    let table = [
+        (9, 32, Some((16, 6))),
+        (13, 32, Some((16, 10))),
+        (65, 32, Some((16, 62))),
+        (65, 64, Some((16, 62))),
+        (65, 33, Some((15, 62))),
+        (69, 32, None),
+        (69, 64, None),
+        (69, 1, Some((15, 66))),
+        (68, 128, Some((15, 66))),
+        (67, 255, None),
+        (66, 255, None),
+    ];
+    for (at, byte, expected) in table {
+        let found = refusal_of(&sixteen(at, byte));
+        check_eq((at, byte, found), (at, byte, expected)).note("stages 0, 1, 14 and 15")?;
+    }
+    Ok(())
+}
+
+/// How many bytes follow the layout, and how many stages it has.
+fn read(bytes: &[u8]) -> Result<(usize, usize), Fail> {
+    let (parts, rest) = read_layout(bytes)?;
+    let layout = Layout { parts };
+    Ok((rest.len(), layout.stages()))
+}
+
+#[test]
+fn bytes_after_the_layout() -> Result<(), Fail> {
+    for stages in 2..17u8 {
+        let found = read(&headed([67, 70, 76, 0, 1, stages]))?;
+        let n = usize::from(stages);
+        check_eq(found, (64 - 4 * n, n)).note("what follows, stages")?;
+    }
+    Ok(())
+}
+
+/// Three stages: 2 and 16; 2, 3 and 31; 5.
+const THREE: [u8; 18] = *b"CFL\0\x01\x03\0\x01\0\x04\x80\0\0\x0c\0\0\0\x20";
+
+#[test]
+fn able_stages() -> Result<(), Fail> {
+    let (parts, _) = read_layout(&THREE)?;
+    let layout = Layout { parts };
+    check_eq(layout.stages(), 3).note("stages")?;
+    for stage in 0..4usize {
+        for operation in 0..=255u8 {
+            let expected = match (stage, operation) {
+                (0, 2) => true,
+                (0, 16) => true,
+                (1, 2) => true,
+                (1, 3) => true,
+                (1, 31) => true,
+                (2, 5) => true,
+                _ => false,
+            };
+            let case = (stage, operation);
+            check_eq((case, layout.able(stage, operation)), (case, expected))?;
+        }
+    }
+    check_eq(layout.able(usize::MAX, 2), false).note("far past the top")
+}
+
+#[test]
+fn last_able_stages() -> Result<(), Fail> {
+    let (parts, _) = read_layout(&THREE)?;
+    let layout = Layout { parts };
+    let table = [
+        (0, None),
+        (1, None),
+        (2, Some(1)),
+        (3, Some(1)),
+        (4, None),
+        (5, Some(2)),
+        (6, None),
+        (16, Some(0)),
+        (17, None),
+        (31, Some(1)),
+        (32, None),
+        (34, None),
+        (255, None),
+    ];
+    for (operation, expected) in table {
+        let found = layout.last_able(operation);
+        check_eq((operation, found), (operation, expected)).note("the last stage")?;
+    }
+    Ok(())
+}
+
+#[test]
+fn noise(rt: LibcRuntime) -> Result<(), Fail> {
+    let mut bytes = Vec::new(rt.alloc());
+    add_noise(&mut bytes)?;
+    check_eq(refusal_of(&bytes), Some((11, 0))).note("60 is no C")
+}
