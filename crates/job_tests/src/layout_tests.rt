@@ -1,10 +1,8 @@
 //! Layouts: the six bytes that they begin with, the sets, and what a stage can execute.
 use crate::told::Told;
-use crate::told::add_noise;
 use crate::told::told;
 use crate::told::two_stages;
 use layout::Layout;
-use layout::LayoutFaultDebug;
 use layout::read_layout;
 use std::test::*;
 
@@ -54,21 +52,11 @@ fn sets_are(table: &[(u32, u32, Told)]) -> Result<(), Fail> {
 
 #[test]
 fn every_shorter_length() -> Result<(), Fail> {
-    let bytes = two_stages(4, 4);
-    for length in 0..14usize {
+    let bytes = headed(*b"CFL\0\x01\x10");
+    for length in 0..70usize {
         let number = if length < 6 { 10 } else { 14 };
         let found = refusal_of(&bytes[0..length]);
         check_eq(found, Some((number, length))).note("the place is the length")?;
-    }
-    check_eq(refusal_of(&bytes), None).note("nothing is missing")
-}
-
-#[test]
-fn every_shorter_length_of_sixteen_stages() -> Result<(), Fail> {
-    let bytes = headed(*b"CFL\0\x01\x10");
-    for length in 6..70usize {
-        let found = refusal_of(&bytes[0..length]);
-        check_eq(found, Some((14, length))).note("the place is the length")?;
     }
     check_eq(refusal_of(&bytes), None).note("nothing is missing")
 }
@@ -106,13 +94,24 @@ fn versions() -> Result<(), Fail> {
     ).note("0, 1, 2, 256, 257 and 65,535")
 }
 
+/// How many stages the layout has, and how many bytes follow it.
+fn read(bytes: &[u8]) -> Option<(usize, usize)> {
+    let (parts, rest) = read_layout(bytes).ok()?;
+    let layout = Layout { parts };
+    Some((layout.stages(), rest.len()))
+}
+
 #[test]
 fn numbers_of_stages() -> Result<(), Fail> {
-    for stages in 0..=255u8 {
-        let known = stages > 1 && stages < 17;
-        let expected = if known { None } else { Some((13, 5)) };
-        let found = refusal_of(&headed([67, 70, 76, 0, 1, stages]));
-        check_eq((stages, found), (stages, expected)).note("2 to 16")?;
+    for stages in 0..18u8 {
+        let n = usize::from(stages);
+        let expected = if n < 2 || n > 16 {
+            (Some((13, 5)), None)
+        } else {
+            (None, Some((n, 64 - 4 * n)))
+        };
+        let bytes = headed([67, 70, 76, 0, 1, stages]);
+        check_eq((refusal_of(&bytes), read(&bytes)), expected).note("2 to 16")?;
     }
     Ok(())
 }
@@ -124,12 +123,13 @@ fn first_question_decides() -> Result<(), Fail> {
             (*b"CFM\0\x02\x01", Some((11, 0))),
             (*b"CFL\0\x02\x01", Some((12, 3))),
             (*b"CFL\0\x01\x01", Some((13, 5))),
+            (*b"CFL\0\x01\x12", Some((13, 5))),
+            (*b"CFL\0\x01\xff", Some((13, 5))),
         ],
-    ).note("mark, version, stages")?;
-    check_eq(refusal_of(b"CFM\0\x02"), Some((10, 5))).note("10 before 11 and 12")?;
-    check_eq(refusal_of(b"CFL\0\x01\x11"), Some((13, 5))).note("13 before 14")?;
+    ).note("mark, version, stages; 13 before 14")?;
     let bytes = two_stages(1, 1);
-    check_eq(refusal_of(&bytes[0..13]), Some((14, 13))).note("14 before 15")
+    let found = (refusal_of(b"CFM\0\x02"), refusal_of(&bytes[0..13]));
+    check_eq(found, (Some((10, 5)), Some((14, 13)))).note("10 before 11, 14 before 15")
 }
 
 #[test]
@@ -231,78 +231,44 @@ fn sets_of_sixteen_stages() -> Result<(), Fail> {
     Ok(())
 }
 
-/// How many bytes follow the layout, and how many stages it has.
-fn read(bytes: &[u8]) -> Result<(usize, usize), Fail> {
-    let (parts, rest) = read_layout(bytes)?;
-    let layout = Layout { parts };
-    Ok((rest.len(), layout.stages()))
-}
-
-#[test]
-fn bytes_after_the_layout() -> Result<(), Fail> {
-    for stages in 2..17u8 {
-        let found = read(&headed([67, 70, 76, 0, 1, stages]))?;
-        let n = usize::from(stages);
-        check_eq(found, (64 - 4 * n, n)).note("what follows, stages")?;
-    }
-    Ok(())
-}
-
 /// Three stages: 2 and 16; 2, 3 and 31; 5.
 const THREE: [u8; 18] = *b"CFL\0\x01\x03\0\x01\0\x04\x80\0\0\x0c\0\0\0\x20";
 
+/// Which of the three stages, and of two past the top, can execute the operation, and the last.
+fn able(operation: u8) -> Option<([bool; 5], Option<usize>)> {
+    let (parts, _) = read_layout(&THREE).ok()?;
+    let layout = Layout { parts };
+    let stages = [
+        layout.able(0, operation),
+        layout.able(1, operation),
+        layout.able(2, operation),
+        layout.able(3, operation),
+        layout.able(usize::MAX, operation),
+    ];
+    Some((stages, layout.last_able(operation)))
+}
+
 #[test]
 fn able_stages() -> Result<(), Fail> {
-    let (parts, _) = read_layout(&THREE)?;
-    let layout = Layout { parts };
-    check_eq(layout.stages(), 3).note("stages")?;
-    for stage in 0..4usize {
-        for operation in 0..=255u8 {
-            let expected = match (stage, operation) {
-                (0, 2) => true,
-                (0, 16) => true,
-                (1, 2) => true,
-                (1, 3) => true,
-                (1, 31) => true,
-                (2, 5) => true,
-                _ => false,
-            };
-            let case = (stage, operation);
-            check_eq((case, layout.able(stage, operation)), (case, expected))?;
-        }
-    }
-    check_eq(layout.able(usize::MAX, 2), false).note("far past the top")
-}
-
-#[test]
-fn last_able_stages() -> Result<(), Fail> {
-    let (parts, _) = read_layout(&THREE)?;
-    let layout = Layout { parts };
+    let none = ([false; 5], None);
     let table = [
-        (0, None),
-        (1, None),
-        (2, Some(1)),
-        (3, Some(1)),
-        (4, None),
-        (5, Some(2)),
-        (6, None),
-        (16, Some(0)),
-        (17, None),
-        (31, Some(1)),
-        (32, None),
-        (34, None),
-        (255, None),
+        (0, none),
+        (1, none),
+        (2, ([true, true, false, false, false], Some(1))),
+        (3, ([false, true, false, false, false], Some(1))),
+        (4, none),
+        (5, ([false, false, true, false, false], Some(2))),
+        (6, none),
+        (15, none),
+        (16, ([true, false, false, false, false], Some(0))),
+        (17, none),
+        (31, ([false, true, false, false, false], Some(1))),
+        (32, none),
+        (34, none),
+        (255, none),
     ];
     for (operation, expected) in table {
-        let found = layout.last_able(operation);
-        check_eq((operation, found), (operation, expected)).note("the last stage")?;
+        check_eq((operation, able(operation)), (operation, Some(expected))).note("stages")?;
     }
     Ok(())
-}
-
-#[test]
-fn noise(rt: LibcRuntime) -> Result<(), Fail> {
-    let mut bytes = Vec::new(rt.alloc());
-    add_noise(&mut bytes)?;
-    check_eq(refusal_of(&bytes), Some((11, 0))).note("60 is no C")
 }

@@ -1,9 +1,9 @@
 //! Move lists: the seven bytes that they begin with, the moves, and what is got from a list.
 use crate::told::Told;
-use crate::told::add_noise;
+use crate::told::add;
+use crate::told::put;
 use crate::told::told;
 use moves::MoveList;
-use moves::MoveListFaultDebug;
 use moves::read_moves;
 use std::alloc::AllocError;
 use std::alloc::Global;
@@ -29,9 +29,7 @@ fn two(moves: [u8; 4]) -> [u8; 11] {
 fn many(heap: Global, count: u16, moves: u16, one: [u8; 2]) -> Result<Vec<u8>, AllocError> {
     let [c1, c0] = count.to_be_bytes();
     let mut bytes = [67, 70, 77, 0, 1, c1, c0].to_vec(heap)?;
-    for _ in 0..moves {
-        bytes.extend_from_slice(&one)?;
-    }
+    add(&mut bytes, moves, &one)?;
     Ok(bytes)
 }
 
@@ -120,9 +118,9 @@ fn first_question_decides() -> Result<(), Fail> {
             (*b"CFM\0\x01\xff\xff", Some((20, 5))),
         ],
     ).note("mark, version, count; 20 before 21")?;
-    check_eq(refusal_of(b"CFL\0\x02\xff"), Some((17, 6))).note("17 before 18 and 19")?;
     let bytes = two([0, 16, 0, 16]);
-    check_eq(refusal_of(&bytes[0..10]), Some((21, 10))).note("21 before 22")
+    let found = (refusal_of(b"CFL\0\x02\xff"), refusal_of(&bytes[0..10]));
+    check_eq(found, (Some((17, 6)), Some((21, 10)))).note("17 before 18, 21 before 22")
 }
 
 #[test]
@@ -185,20 +183,20 @@ fn lower_moves_first() -> Result<(), Fail> {
     ).note("for each move 22, then 23")
 }
 
-/// The kind's number and the place of a move of the list.
-fn got(list: MoveList<'_>, index: u16) -> Option<(u8, u8)> {
-    match list.get(index) {
+/// The list's count, the kind's number and the place of a move, and how many bytes follow.
+fn got(bytes: &[u8], index: u16) -> Option<(u16, Option<(u8, u8)>, usize)> {
+    let (parts, rest) = read_moves(bytes).ok()?;
+    let list = MoveList { parts };
+    let found = match list.get(index) {
         Some(found) => Some((found.kind.number(), found.place)),
         None => None,
-    }
+    };
+    Some((list.count(), found, rest.len()))
 }
 
 #[test]
 fn moves_are_got() -> Result<(), Fail> {
-    let bytes = b"CFM\0\x01\0\x08\x01\0\x02\x0f\x03\0\x04\x01\x05\x0e\x06\x07\x07\0\x08\0";
-    let (parts, rest) = read_moves(bytes)?;
-    let list = MoveList { parts };
-    check_eq((list.count(), rest.len()), (8, 0)).note("count, what follows")?;
+    let bytes = b"CFM\0\x01\0\x08\x01\0\x02\x0f\x03\0\x04\x01\x05\x0e\x06\x07\x07\0\x08\0\x01";
     let table = [
         (0, Some((1, 0))),
         (1, Some((2, 15))),
@@ -212,27 +210,17 @@ fn moves_are_got() -> Result<(), Fail> {
         (65535, None),
     ];
     for (index, expected) in table {
-        check_eq((index, got(list, index)), (index, expected)).note("kind, place")?;
+        check_eq(got(bytes, index), Some((8, expected, 1))).note("one byte follows")?;
     }
-    Ok(())
-}
-
-#[test]
-fn no_moves() -> Result<(), Fail> {
-    let (parts, rest) = read_moves(b"CFM\0\x01\0\0\x01\0\xff")?;
-    let list = MoveList { parts };
-    let found = (list.count(), got(list, 0), rest.len());
-    check_eq(found, (0, None, 3)).note("three bytes follow, unread")
+    check_eq(got(b"CFM\0\x01\0\0\x01\0\xff", 0), Some((0, None, 3))).note("no moves")
 }
 
 #[test]
 fn most_moves(rt: LibcRuntime) -> Result<(), Fail> {
     let bytes = many(rt.alloc(), 16000, 16000, [6, 15])?;
-    let (parts, rest) = read_moves(&bytes)?;
-    let list = MoveList { parts };
-    check_eq((list.count(), rest.len()), (16000, 0)).note("count, what follows")?;
-    let found = (got(list, 15999), got(list, 16000));
-    check_eq(found, (Some((6, 15)), None)).note("the last move, and past it")
+    let found = (got(&bytes, 15999), got(&bytes, 16000));
+    let expected = (Some((16000, Some((6, 15)), 0)), Some((16000, None, 0)));
+    check_eq(found, expected).note("the last move, and past it")
 }
 
 #[test]
@@ -254,12 +242,6 @@ fn most_moves_short_or_too_many(rt: LibcRuntime) -> Result<(), Fail> {
     Ok(())
 }
 
-fn put(bytes: &mut [u8], at: usize, byte: u8) {
-    if at < bytes.len() {
-        bytes[at] = byte;
-    }
-}
-
 #[test]
 fn faults_at_the_end_of_most_moves(rt: LibcRuntime) -> Result<(), Fail> {
     let mut bytes = many(rt.alloc(), 16000, 16000, [2, 15])?;
@@ -274,15 +256,4 @@ fn faults_at_the_end_of_most_moves(rt: LibcRuntime) -> Result<(), Fail> {
         check_eq((at, refusal_of(&bytes)), (at, expected)).note("moves 15,999 and 15,998")?;
     }
     Ok(())
-}
-
-#[test]
-fn noise(rt: LibcRuntime) -> Result<(), Fail> {
-    let heap = rt.alloc();
-    let mut bytes = many(heap, 16000, 0, [0, 0])?;
-    add_noise(&mut bytes)?;
-    check_eq(refusal_of(&bytes), Some((22, 7))).note("60 is no kind")?;
-    let mut bytes = Vec::new(heap);
-    add_noise(&mut bytes)?;
-    check_eq(refusal_of(&bytes), Some((18, 0))).note("60 is no C")
 }

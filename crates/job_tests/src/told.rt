@@ -22,6 +22,20 @@ pub(crate) fn two_stages(bottom: u32, top: u32) -> [u8; 14] {
     bytes
 }
 
+/// Adds so many times these bytes.
+pub(crate) fn add(bytes: &mut Vec<u8>, times: u16, part: &[u8]) -> Result<(), AllocError> {
+    for _ in 0..times {
+        bytes.extend_from_slice(part)?;
+    }
+    Ok(())
+}
+
+pub(crate) fn put(bytes: &mut [u8], at: usize, byte: u8) {
+    if at < bytes.len() {
+        bytes[at] = byte;
+    }
+}
+
 /// Adds 65,536 bytes of noise: the high bytes of x -> 1,664,525 x + 1,013,904,223 mod 2^32, from
 /// x = 1. The first is 1,015,568,748 div 2^24 = 60.
 pub(crate) fn add_noise(bytes: &mut Vec<u8>) -> Result<(), AllocError> {
