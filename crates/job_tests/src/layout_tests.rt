@@ -81,6 +81,19 @@ fn each_letter_of_the_mark() -> Result<(), Fail> {
 }
 
 #[test]
+fn first_question_decides() -> Result<(), Fail> {
+    heads_are(
+        &[
+            (*b"CFM\0\x02\x01", Some((11, 0))),
+            (*b"CFL\0\x02\x01", Some((12, 3))),
+            (*b"CFL\0\x01\x01", Some((13, 5))),
+            (*b"CFL\0\x01\x12", Some((13, 5))),
+            (*b"CFL\0\x01\xff", Some((13, 5))),
+        ],
+    ).note("mark, version, stages; 13 before 14")
+}
+
+#[test]
 fn versions() -> Result<(), Fail> {
     heads_are(
         &[
@@ -94,11 +107,23 @@ fn versions() -> Result<(), Fail> {
     ).note("0, 1, 2, 256, 257 and 65,535")
 }
 
-/// How many stages the layout has, and how many bytes follow it.
-fn read(bytes: &[u8]) -> Option<(usize, usize)> {
+/// What a layout tells of an operation: how many stages there are, which of stages 0 to 3 and of one
+/// far past the top can execute it, and the last that can.
+type Abilities = (usize, [bool; 5], Option<usize>);
+
+/// What the layout tells of the operation, and how many bytes follow it.
+fn able(bytes: &[u8], operation: u8) -> Option<(Abilities, usize)> {
     let (parts, rest) = read_layout(bytes).ok()?;
     let layout = Layout { parts };
-    Some((layout.stages(), rest.len()))
+    let stages = [
+        layout.able(0, operation),
+        layout.able(1, operation),
+        layout.able(2, operation),
+        layout.able(3, operation),
+        layout.able(usize::MAX, operation),
+    ];
+    let abilities = (layout.stages(), stages, layout.last_able(operation));
+    Some((abilities, rest.len()))
 }
 
 #[test]
@@ -108,25 +133,16 @@ fn numbers_of_stages() -> Result<(), Fail> {
         let expected = if n < 2 || n > 16 {
             (Some((13, 5)), None)
         } else {
-            (None, Some((n, 64 - 4 * n)))
+            (None, Some(((n, [false; 5], None), 64 - 4 * n)))
         };
         let bytes = headed([67, 70, 76, 0, 1, stages]);
-        check_eq((refusal_of(&bytes), read(&bytes)), expected).note("2 to 16")?;
+        check_eq((refusal_of(&bytes), able(&bytes, 2)), expected).note("2 to 16")?;
     }
     Ok(())
 }
 
 #[test]
-fn first_question_decides() -> Result<(), Fail> {
-    heads_are(
-        &[
-            (*b"CFM\0\x02\x01", Some((11, 0))),
-            (*b"CFL\0\x02\x01", Some((12, 3))),
-            (*b"CFL\0\x01\x01", Some((13, 5))),
-            (*b"CFL\0\x01\x12", Some((13, 5))),
-            (*b"CFL\0\x01\xff", Some((13, 5))),
-        ],
-    ).note("mark, version, stages; 13 before 14")?;
+fn head_before_length_before_sets() -> Result<(), Fail> {
     let bytes = two_stages(1, 1);
     let found = (refusal_of(b"CFM\0\x02"), refusal_of(&bytes[0..13]));
     check_eq(found, (Some((10, 5)), Some((14, 13)))).note("10 before 11, 14 before 15")
@@ -234,20 +250,6 @@ fn sets_of_sixteen_stages() -> Result<(), Fail> {
 /// Three stages: 2 and 16; 2, 3 and 31; 5.
 const THREE: [u8; 18] = *b"CFL\0\x01\x03\0\x01\0\x04\x80\0\0\x0c\0\0\0\x20";
 
-/// Which of the three stages, and of two past the top, can execute the operation, and the last.
-fn able(operation: u8) -> Option<([bool; 5], Option<usize>)> {
-    let (parts, _) = read_layout(&THREE).ok()?;
-    let layout = Layout { parts };
-    let stages = [
-        layout.able(0, operation),
-        layout.able(1, operation),
-        layout.able(2, operation),
-        layout.able(3, operation),
-        layout.able(usize::MAX, operation),
-    ];
-    Some((stages, layout.last_able(operation)))
-}
-
 #[test]
 fn able_stages() -> Result<(), Fail> {
     let none = ([false; 5], None);
@@ -268,7 +270,12 @@ fn able_stages() -> Result<(), Fail> {
         (255, none),
     ];
     for (operation, expected) in table {
-        check_eq((operation, able(operation)), (operation, Some(expected))).note("stages")?;
+        let (stages, last) = expected;
+        let found = able(&THREE, operation);
+        check_eq(
+            (operation, found),
+            (operation, Some(((3, stages, last), 0))),
+        ).note("three")?;
     }
     Ok(())
 }
