@@ -1,4 +1,6 @@
 //! The log: records in a row, in places that a caller lends, and the line of a record.
+#![tactic(auto)]
+
 pub use faults::{LogFault, WriteFault};
 pub use lines::Line;
 pub use places::Log;

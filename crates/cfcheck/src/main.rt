@@ -1,4 +1,6 @@
 //! `cfcheck`: checks the job on standard input, and prints whether it can be run.
+#![tactic(auto)]
+
 use checking::{JobFigures, check_job};
 use std::io::Read;
 use unit::WholeNumber;

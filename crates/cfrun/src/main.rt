@@ -1,4 +1,6 @@
 //! `cfrun`: runs the job on standard input, and prints each live retirement.
+#![tactic(auto)]
+
 use anyhow::anyhow;
 use checking::JobFigures;
 use effect::{Action, Retirement};

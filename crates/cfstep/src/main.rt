@@ -1,4 +1,6 @@
 //! `cfstep`: executes the image on standard input, one instruction at a time, and prints each step.
+#![tactic(auto)]
+
 use anyhow::anyhow;
 use effect::{Action, Retirement};
 use execution::{Execution, execute};

@@ -1,4 +1,6 @@
 //! The check of a job: read, then fitted.
+#![tactic(auto)]
+
 pub use answers::{CheckFault, JobFigures};
 pub use fitted::FittedJob;
 pub use fitting::fit_job;

@@ -1,4 +1,6 @@
 //! Which move a drain makes next.
+#![tactic(auto)]
+
 pub use policy::choose;
 
 mod finding;

@@ -1,4 +1,6 @@
 //! From the bytes of an image to its execution, one instruction at a time.
+#![tactic(auto)]
+
 ghost use Rattle.std.specs.Prelude.{◌≡◌, take, drop};
 ghost use Rattle.stepper.specs.View.{Ran};
 ghost use Rattle.execution.specs.Executed.{executed};

@@ -1,4 +1,6 @@
 //! Fit: whether every instruction of an image has a stage, and whether the unit knows its operations.
+#![tactic(auto)]
+
 pub use faults::FitFault;
 pub use fitting::fit;
 pub use pairs::Fitted;

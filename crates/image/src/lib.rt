@@ -1,4 +1,6 @@
 //! Images: the program of a core, read from bytes.
+#![tactic(auto)]
+
 pub use faults::ImageFault;
 pub use images::Image;
 pub use parts::{Head, ImageParts};

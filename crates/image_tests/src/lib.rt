@@ -1,4 +1,6 @@
 //! Tests of the reader of images: every question with its byte place, and both ends of every bound.
+#![tactic(auto)]
+
 #[cfg(test)]
 mod decoding_tests;
 #[cfg(test)]

@@ -1,4 +1,6 @@
 //! Instructions: what a core is asked to do.
+#![tactic(auto)]
+
 pub use instructions::{Instruction, Operand, Operands};
 pub use numbers::{Register, UnitOp};
 

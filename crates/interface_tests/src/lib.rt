@@ -1,4 +1,6 @@
 //! Tests of what stands behind the interfaces: memories, windows, units, and the log.
+#![tactic(auto)]
+
 #[cfg(test)]
 mod log_tests;
 #[cfg(test)]

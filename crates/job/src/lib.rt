@@ -1,4 +1,6 @@
 //! Jobs: an image, a layout and a move list in a row, read in this order.
+#![tactic(auto)]
+
 pub use faults::JobFault;
 pub use reader::read_job;
 pub use states::{Job, JobBytes, JobWithImage, JobWithLayout};

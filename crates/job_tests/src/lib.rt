@@ -1,4 +1,6 @@
 //! Tests of the reader of jobs and of fit: every question with its byte place.
+#![tactic(auto)]
+
 #[cfg(test)]
 mod fit_tests;
 #[cfg(test)]

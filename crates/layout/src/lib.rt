@@ -1,4 +1,6 @@
 //! Layouts: which stages a core has, and what each can execute, read from bytes.
+#![tactic(auto)]
+
 pub use faults::{LayoutFault, SetFault};
 pub use layouts::Layout;
 pub use parts::LayoutParts;

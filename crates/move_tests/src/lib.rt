@@ -1,4 +1,6 @@
 //! Tests of every single move: its questions, and what it leaves.
+#![tactic(auto)]
+
 #[cfg(test)]
 mod flow_tests;
 #[cfg(test)]

@@ -1,4 +1,6 @@
 //! Moves, and lists of moves, read from bytes.
+#![tactic(auto)]
+
 pub use faults::{MoveFault, MoveListFault};
 pub use kinds::{Move, MoveKind};
 pub use lists::MoveList;

@@ -1,4 +1,6 @@
 //! A move, on plain pipes.
+#![tactic(auto)]
+
 pub use making::make_move;
 
 mod accepting;

@@ -1,4 +1,6 @@
 //! What stands in a stage: packets with their bindings, results, and their meeting.
+#![tactic(auto)]
+
 pub use bindings::{Binding, Source};
 pub use packets::{Packet, PacketState, Standing};
 pub use results::PipeResult;

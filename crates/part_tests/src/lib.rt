@@ -1,5 +1,7 @@
 //! Tests of the readers of layouts and of move lists: every question with its byte place, and both ends
 //! of every bound.
+#![tactic(auto)]
+
 #[cfg(test)]
 mod layout_tests;
 #[cfg(test)]

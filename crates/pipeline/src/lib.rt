@@ -1,4 +1,6 @@
 //! The pipeline: build, every single move, and runs of moves.
+#![tactic(auto)]
+
 pub use pipelines::Pipeline;
 
 mod building;

@@ -1,4 +1,6 @@
 //! The two pipes as plain data, and what every move makes of them.
+#![tactic(auto)]
+
 pub use answers::{Drain, DrainRefusal, MoveRefusal, RunFigures, RunRefusal};
 pub use state::{FetchPoint, Pipes};
 

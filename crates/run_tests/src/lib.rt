@@ -1,4 +1,6 @@
 //! Tests of runs, and of whole jobs.
+#![tactic(auto)]
+
 #[cfg(test)]
 mod agreement_tests;
 #[cfg(test)]

@@ -1,4 +1,6 @@
 //! From the bytes of a job to its run.
+#![tactic(auto)]
+
 pub use answers::{JobRun, JobRunFault};
 pub use jobs::run_job;
 

@@ -1,4 +1,6 @@
 //! Tests of the stepper and of whole executions.
+#![tactic(auto)]
+
 #[cfg(test)]
 mod instruction_tests;
 #[cfg(test)]

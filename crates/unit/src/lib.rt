@@ -1,4 +1,6 @@
 //! Units: what computes the outcome of an operation on two words.
+#![tactic(auto)]
+
 pub use outcome::Outcome;
 pub use table::WordTable;
 pub use traits::Unit;

@@ -11,7 +11,7 @@ pub unreachable-requires : goal.unreachable-requires
 unreachable-requires c =
     let parts = c.args.image.now.parts in
     let inside : c.loop-index.index < length (program c.args.image.now.parts) = omega (arith, length-program parts.head.count parts.records.now) in
-    nth_out (program parts) c.loop-index.index inside (c.in-default.ensures ∙ ap (slice_get (program parts)) c.from.ensures)
+    nth_out (program parts) c.loop-index.index inside (c.in_default.ensures ∙ ap (slice_get (program parts)) c.from.ensures)
 
 pub returns-then-not-placed : goal.returns-then-not-placed
 returns-then-not-placed c =

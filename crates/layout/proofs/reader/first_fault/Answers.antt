@@ -10,7 +10,7 @@ returns-in-Some c =
     let n = c.args.stages in
     let k = c.loop-stage.stage in
     let left : 0 < c.args.stages - c.loop-stage.stage = omega arith in
-    let set : c.from-be-bytes-set.result ≡ four_at c.loop-stage.rest.now 0 = search rules in
+    let set : c.from_be_bytes-set.result ≡ four_at c.loop-stage.rest.now 0 = search rules in
     let e = sym (c.in-Some.ensures ∙ ap (set_fault n k) set) in
     sym (first_now (set_fault_at n) 4 (n - k) k c.loop-stage.rest.now c.in-Some.fault left e) ∙ c.loop-stage.invariant.1
 
@@ -22,7 +22,7 @@ loop-stage-preserved c =
     let left : 0 < c.args.stages - c.loop-stage.stage = omega arith in
     let less : c.args.stages - (c.loop-stage.stage + 1) ≡ c.args.stages - c.loop-stage.stage - 1 = omega arith in
     let more = take_rest bs 4 in
-    let set : c.from-be-bytes-set.result ≡ four_at c.loop-stage.rest.now 0 = search rules in
+    let set : c.from_be_bytes-set.result ≡ four_at c.loop-stage.rest.now 0 = search rules in
     let e = sym (c.in-None.ensures ∙ ap (set_fault n k) set) in
     let long : length (take (length c.loop-stage.rest.now - 4) (drop 4 c.loop-stage.rest.now)) ≡ 4 * (c.args.stages - (c.loop-stage.stage + 1)) = omega (arith, ap length more, length-drop 4 bs, c.loop-stage.invariant.0) in (
       long,

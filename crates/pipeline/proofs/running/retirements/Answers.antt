@@ -6,7 +6,7 @@ use Rattle.pipes.proofs.Runs.{drop_nth, nth_none}
 use Rattle.pipeline.proofs.running.retirements.Goals as goal
 
 pub unreachable-requires : goal.unreachable-requires
-unreachable-requires c = nth_none (moves_in c.args.moves.now.parts) c.loop-index.index (omega arith) c.in-default.ensures
+unreachable-requires c = nth_none (moves_in c.args.moves.now.parts) c.loop-index.index (omega arith) c.in_default.ensures
 
 pub loop-index-preserved : goal.loop-index-preserved
 loop-index-preserved c =

@@ -4,8 +4,8 @@ use Rattle.memory.proofs.Facts.{write_out, written_out}
 use Rattle.memory.proofs.Within.{inside, window_write, window_written, outside_same, below_in, below_out}
 use Rattle.memory.proofs.window.WindowMemory.write.Goals as goal
 
-pub overflow-add-self : goal.overflow-add-self
-overflow-add-self g c =
+pub overflow_add-self : goal.overflow_add-self
+overflow_add-self g c =
     let s = c.args.self.now in
     omega (arith, inside (g.M.Readable.words s.below) s.base s.size c.args.address (omega arith), g.M.Readable.short c.args.self.now.below)
 

@@ -15,7 +15,7 @@ returns g c =
     let W = world_of (g.U.Unit.table c.args.unit.now) before.image in
     let sets = sets_in before.layout.parts in
     let words = g.M.Readable.words c.args.memory.now in
-    let made = c.make-move.ensures in
+    let made = c.make_move.ensures in
     record {
       value = made.value;
       pipes = made.pipes;
@@ -30,11 +30,11 @@ returns g c =
       beyond = made.beyond;
     }
 
-pub invariant-of-self : goal.invariant-of-self
-invariant-of-self g c =
+pub invariant_of-self : goal.invariant_of-self
+invariant_of-self g c =
     let before = c.args.self.now in
     let sets = sets_in before.layout.parts in
     let laid = read_laid before.layout.parts before.layout.read in
     let W = world_of (g.U.Unit.table c.args.unit.now) before.image in
     let kept = moved_sound W sets before.pipes (g.M.Readable.words c.args.memory.now) before.fits laid.low laid.high before.sound c.args.kind c.args.place in
-    (before.fits, (subst (λ (P : Pipes). Sound sets P) (sym c.make-move.ensures.pipes) kept, tt))
+    (before.fits, (subst (λ (P : Pipes). Sound sets P) (sym c.make_move.ensures.pipes) kept, tt))

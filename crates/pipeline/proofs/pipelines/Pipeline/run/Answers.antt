@@ -18,7 +18,7 @@ loop-index-init g c =
     (underway_none _ _ _ _ _ _ _ (omega arith), refl, refl, refl, refl, refl)
 
 pub unreachable-requires : goal.unreachable-requires
-unreachable-requires g c = nth_none (moves_in c.args.moves.now.parts) c.loop-index.index (omega arith) c.in-default.ensures
+unreachable-requires g c = nth_none (moves_in c.args.moves.now.parts) c.loop-index.index (omega arith) c.in_default.ensures
 
 pub loop-index-preserved : goal.loop-index-preserved
 loop-index-preserved g c =
@@ -31,15 +31,15 @@ loop-index-preserved g c =
     let m = c.in-Some.next in
     let inv = c.loop-index.invariant in
     let same = moved_as table Q ws m inv.2 inv.3 c.number.ensures in
-    let p = c.make-move-answer.ensures.pipes ∙ ap (λ (x : Moved). x.pipes) same in
-    let w = c.make-move-answer.ensures.words ∙ ap (λ (x : Moved). x.words) same in
+    let p = c.make_move-answer.ensures.pipes ∙ ap (λ (x : Moved). x.pipes) same in
+    let w = c.make_move-answer.ensures.words ∙ ap (λ (x : Moved). x.words) same in
     let answer = ap (λ (x : Moved). x.answer) same in
     let next = c.in-Some.ensures in
-    let image = c.make-move-answer.ensures.image ∙ inv.2 in
-    let layout = c.make-move-answer.ensures.layout ∙ inv.3 in
-    let roots = c.make-move-answer.ensures.rooted ∙ inv.4 in
-    let beyond = c.make-move-answer.ensures.beyond ∙ inv.5 in
-    let more = underway_more W sets _ _ ms _ _ c.loop-index.index m Q _ ws _ c.loop-index.figures _ _ next inv.0 p w c.make-move-answer.result (c.make-move-answer.ensures.value ∙ answer) in
+    let image = c.make_move-answer.ensures.image ∙ inv.2 in
+    let layout = c.make_move-answer.ensures.layout ∙ inv.3 in
+    let roots = c.make_move-answer.ensures.rooted ∙ inv.4 in
+    let beyond = c.make_move-answer.ensures.beyond ∙ inv.5 in
+    let more = underway_more W sets _ _ ms _ _ c.loop-index.index m Q _ ws _ c.loop-index.figures _ _ next inv.0 p w c.make_move-answer.result (c.make_move-answer.ensures.value ∙ answer) in
     (simp (c.note.ensures.figures, c.note.ensures.places, c.note.ensures.count) more, c.note.ensures.root ∙ inv.1, image, layout, roots, beyond)
 
 pub note-requires : goal.note-requires
