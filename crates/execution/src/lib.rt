@@ -6,9 +6,9 @@ ghost use Rattle.stepper.specs.View.{Ran};
 ghost use Rattle.execution.specs.Executed.{executed};
 
 pub use answers::Execution;
+use bounded_log::Log;
 use effect::Retirement;
 use image::{Image, ImageFault, read_image};
-use bounded_log::Log;
 use memory::LentWords;
 use stepper::Stepper;
 use unit::Unit;

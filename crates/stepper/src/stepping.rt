@@ -3,9 +3,9 @@ ghost use Rattle.stepper.specs.Machine.{applied, stepped, answer_of};
 ghost use Rattle.stepper.specs.View.{view, world_of, Ran};
 
 use crate::state::{StepFault, Stepper};
+use bounded_log::Log;
 use effect::{Action, Effect, Fetched, Retirement};
 use instruction::Register;
-use bounded_log::Log;
 use memory::{Memory, Readable};
 use unit::Unit;
 
