@@ -2,9 +2,9 @@
 #![tactic(auto)]
 
 use anyhow::anyhow;
+use bounded_log::{Log, WriteFault};
 use effect::{Action, Retirement};
 use execution::{Execution, execute};
-use bounded_log::{Log, WriteFault};
 use std::alloc::Global;
 use std::io::Read;
 use unit::WholeNumber;
