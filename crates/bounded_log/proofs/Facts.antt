@@ -2,7 +2,6 @@
 use Rattle.std.proofs.Common.{◌≡◌, ℕ, ◌<◌, ◌≤◌, List, length, get_or, take, Some, Ok, Err, Option, sym, ap, ◌∙◌, arith, length-take, get_or-take}
 use Rattle.std.specs.Option.{ok_or}
 use Rattle.std.proofs.lemmas.Option.{slice_get-get_or, slice_get_past}
-use Rattle.bounded_log.specs.declared.faults.LogFault.{LogFault}
 use Rattle.bounded_log.specs.declared.faults.LogFault.TheVariants.{Missing}
 use Rattle.bounded_log.specs.Entries.{entries, entry_of}
 

@@ -1,5 +1,5 @@
 -- Numbers of several bytes, the highest byte first, in a list of bytes; numbers as sets.
-use Rattle.std.specs.Prelude.{ℕ, ◌+◌, ◌*◌, ◌/◌, ◌%◌, ◌^◌, Bool, ◌&&◌, List, [], ◌∷◌, ◌==◌, slice_index}
+use Rattle.std.specs.Prelude.{ℕ, ◌+◌, ◌*◌, ◌/◌, ◌%◌, ◌^◌, Bool, ◌&&◌, List, ◌==◌, slice_index}
 
 -- the byte at a place
 abbrev pub byte_at : List ℕ → ℕ → ℕ

@@ -1,5 +1,5 @@
 -- Which instructions have a stage, and which operations a unit knows.
-use Rattle.std.specs.Prelude.{◌≡◌, ℕ, zero, suc, ◌+◌, ◌*◌, ◌<◌, Bool, true, false, cond, ◌||◌, List, length, Some, None, Option, nat_lt, slice_index_or}
+use Rattle.std.specs.Prelude.{◌≡◌, ℕ, zero, suc, ◌+◌, ◌*◌, ◌<◌, Bool, true, false, ◌||◌, List, length, Some, None, Option, nat_lt, slice_index_or}
 use Rattle.fields.specs.declared.refusal.Refusal.{Refusal}
 use Rattle.fields.specs.Numbers.{holds}
 use Rattle.instruction.specs.declared.instructions.Instruction.{Instruction}

@@ -1,9 +1,9 @@
 -- A head that was read has a count of at most 4,096, and a handler below it.
-use Rattle.std.proofs.Common.{◌≡◌, ℕ, ◌+◌, ◌-◌, ◌*◌, ◌<◌, ◌≤◌, true, not, List, length, take, drop, is_some, Some, None, Ok, Err, Option, Result, sym, refl, ap, ◌∙◌, arith}
+use Rattle.std.proofs.Common.{◌≡◌, ℕ, ◌+◌, ◌*◌, ◌<◌, ◌≤◌, true, not, List, length, is_some, None, Ok, Option, sym, ap, arith}
 use Rattle.std.proofs.lemmas.Bool.Decides.{nat_tests}
 use Rattle.image.specs.declared.parts.Head.{Head}
 use Rattle.image.specs.declared.faults.ImageFault.{ImageFault}
-use Rattle.image.specs.Reading.{Contents, fault_in, sound, head_of, with_head, judged, contents, records_of, image_of}
+use Rattle.image.specs.Reading.{fault_in, sound, head_of, judged, contents, records_of, image_of}
 
 pub record Bounds (bs : List ℕ) (h : Head) : Type 0 where
   pub long : 9 ≤ length bs

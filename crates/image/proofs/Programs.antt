@@ -1,12 +1,11 @@
 -- The instructions of records in a row: how many there are, and which stands at a place.
-use Rattle.std.proofs.Common.{◌≡◌, ℕ, ◌+◌, ◌-◌, ◌*◌, ◌<◌, ◌≤◌, true, List, length, drop, Some, None, Ok, Err, Option, Result, refl, ap, ◌∙◌, arith}
+use Rattle.std.proofs.Common.{◌≡◌, ℕ, ◌+◌, ◌-◌, ◌*◌, ◌<◌, ◌≤◌, true, List, length, drop, Some, None, Ok, Err, Result, refl, ap, ◌∙◌, arith}
 use Rattle.std.specs.Result.{result_ok}
 use Rattle.std.specs.List.{slice_get}
 use Rattle.fields.proofs.Scans.{first_now, first_later, sound_at, length-entries, entries_past, nth-entries}
 use Rattle.record.specs.Decoding.{record_of, instruction_of}
 use Rattle.record.specs.declared.faults.RecordFault.{RecordFault}
 use Rattle.instruction.specs.declared.instructions.Instruction.{Instruction}
-use Rattle.image.specs.declared.faults.ImageFault.{ImageFault}
 use Rattle.image.specs.declared.faults.ImageFault.TheVariants.{Record}
 use Rattle.image.specs.Reading.{fault_at, record_fault, fault_in, decoded, instruction_in, program_of, sound}
 

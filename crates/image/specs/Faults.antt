@@ -1,5 +1,5 @@
 -- Each refusal of an image, with its byte place.
-use Rattle.std.specs.Prelude.{ℕ, ◌+◌, ◌*◌}
+use Rattle.std.specs.Prelude.{◌+◌, ◌*◌}
 use Rattle.fields.specs.declared.refusal.Refusal.{Refusal}
 use Rattle.record.specs.Faults.{record_number, record_offset}
 use Rattle.image.specs.declared.faults.ImageFault.{ImageFault}

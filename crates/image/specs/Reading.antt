@@ -1,5 +1,5 @@
 -- What an image is read as, from a list of bytes.
-use Rattle.std.specs.Prelude.{ℕ, zero, suc, ◌+◌, ◌*◌, Bool, true, false, cond, not, ◌&&◌, List, [], ◌∷◌, length, take, drop, is_some, Some, None, Ok, Err, Option, Result, ◌==◌, nat_le, nat_lt}
+use Rattle.std.specs.Prelude.{ℕ, ◌+◌, ◌*◌, Bool, cond, not, ◌&&◌, List, length, take, drop, is_some, Some, None, Ok, Err, Option, Result, ◌==◌, nat_le, nat_lt}
 use Rattle.fields.specs.Numbers.{two_at, begins}
 use Rattle.fields.specs.Scanning.{first_in, entries_of}
 use Rattle.record.specs.Decoding.{record_of, instruction_of}

@@ -1,5 +1,5 @@
 -- Two numbers below 16 that are equal make the same register, whatever shows that they are below.
-use Rattle.std.proofs.Common.{◌≡◌, ℕ, ◌<◌, refl, ap, subst}
+use Rattle.std.proofs.Common.{◌≡◌, ℕ, ◌<◌, ap, subst}
 use native.Mathlib.Bridge.{le_prop}
 use Rattle.instruction.specs.declared.numbers.Register.{Register}
 use Rattle.instruction.specs.declared.numbers.UnitOp.{UnitOp}

@@ -1,10 +1,9 @@
 -- The end of a job: after the moves nothing is left.
-use Rattle.std.proofs.Common.{◌≡◌, ℕ, suc, true, cond, eqb, List, [], ◌∷◌, length, Ok, Err, Result, sym, refl, ap, ◌∙◌, arith}
+use Rattle.std.proofs.Common.{◌≡◌, ℕ, suc, true, eqb, List, [], ◌∷◌, length, Ok, refl, ap, ◌∙◌, arith}
 use Rattle.std.proofs.lemmas.Bool.{eqb-true}
-use Rattle.moves.specs.declared.faults.MoveListFault.{MoveListFault}
 use Rattle.moves.specs.declared.parts.MoveListParts.{MoveListParts}
 use Rattle.moves.specs.Meaning.{told}
-use Rattle.moves.specs.Reading.{Contents, moves_of}
+use Rattle.moves.specs.Reading.{moves_of}
 use Rattle.job.specs.Reading.{moves_step}
 use Rattle.job.specs.Meaning.{whole_told}
 

@@ -1,9 +1,8 @@
 -- A layout past its head: what the sets say decides.
-use Rattle.std.proofs.Common.{◌≡◌, ℕ, ◌+◌, ◌-◌, ◌*◌, ◌<◌, ◌≤◌, true, not, List, length, take, drop, Ok, Option, sym, refl, ap, ◌∙◌, arith}
-use Rattle.std.proofs.lemmas.List.{take_rest, drop-drop}
+use Rattle.std.proofs.Common.{◌≡◌, ℕ, ◌+◌, ◌*◌, ◌≤◌, List, length, Ok, Option, arith}
 use Rattle.std.proofs.lemmas.Bool.Decides.{nat_tests}
 use Rattle.layout.specs.declared.faults.LayoutFault.{LayoutFault}
-use Rattle.layout.specs.Reading.{Contents, fault_in, stages_of, judged, contents, bytes_of, layout_of}
+use Rattle.layout.specs.Reading.{fault_in, stages_of, judged, contents, bytes_of, layout_of}
 
 pub record Bounds (bs : List ℕ) (n : ℕ) : Type 0 where
   pub long : 6 ≤ length bs

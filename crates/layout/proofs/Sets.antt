@@ -1,5 +1,5 @@
 -- The sets of stages in a row: how many there are, and which is a stage's.
-use Rattle.std.proofs.Common.{◌≡◌, ℕ, ◌+◌, ◌*◌, ◌<◌, List, length, get_or, drop, sym, refl, ap, ◌∙◌, arith, get_or-drop}
+use Rattle.std.proofs.Common.{◌≡◌, ℕ, ◌+◌, ◌*◌, ◌<◌, List, length, get_or, drop, ap, ◌∙◌, arith, get_or-drop}
 use Rattle.fields.specs.Numbers.{byte_at, four_at}
 use Rattle.fields.proofs.Scans.{length-entries, get_d_entries}
 use Rattle.layout.specs.Reading.{set_in, sets_of}

@@ -1,7 +1,6 @@
-use Rattle.std.proofs.Common.{◌≡◌, ℕ, ◌≤◌, sym, ap, ◌∙◌, arith}
-use Rattle.instruction.specs.Operations.{operation_of}
+use Rattle.std.proofs.Common.{◌∙◌}
 use Rattle.layout.specs.Meaning.{sets_in}
-use Rattle.fit.proofs.Stages.{found_some, placed_by}
+use Rattle.fit.proofs.Stages.{placed_by}
 use Rattle.fit.proofs.searches.placed.Goals as goal
 
 pub returns-else-operation-lt2 : goal.returns-else-operation-lt2

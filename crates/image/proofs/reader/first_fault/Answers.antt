@@ -1,4 +1,4 @@
-use Rattle.std.proofs.Common.{◌≡◌, ℕ, ◌+◌, ◌-◌, ◌*◌, ◌<◌, ◌≤◌, List, length, drop, sym, ap, ◌∙◌, arith, length-drop}
+use Rattle.std.proofs.Common.{◌≡◌, ℕ, ◌+◌, ◌-◌, ◌*◌, ◌<◌, length, sym, ap, ◌∙◌, arith, length-drop}
 use Rattle.record.specs.Decoding.{instruction_of}
 use Rattle.image.specs.Reading.{fault_in}
 use Rattle.image.proofs.Programs.{fault_now, fault_later}

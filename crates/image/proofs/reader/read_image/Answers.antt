@@ -1,4 +1,4 @@
-use Rattle.std.proofs.Common.{◌≡◌, ℕ, ◌+◌, ◌*◌, ◌≤◌, List, length, take, drop, Some, None, Ok, sym, ap, ◌∙◌, arith, length-drop, length-take}
+use Rattle.std.proofs.Common.{ℕ, ◌+◌, ◌*◌, List, drop, Some, None, Ok, sym, ap, ◌∙◌, arith}
 use Rattle.fields.proofs.Cuts.{cut_front, cut_back}
 use Rattle.image.specs.Reading.{Contents, fault_in, program_of}
 use Rattle.image.proofs.Heads.{bounds, decided, none_sound}

@@ -1,4 +1,4 @@
-use Rattle.std.proofs.Common.{◌≡◌, ℕ, ◌+◌, ◌*◌, ◌≤◌, not, List, length, drop, is_some, Some, None, Ok, Option, sym, ap, ◌∙◌, arith}
+use Rattle.std.proofs.Common.{ℕ, ◌+◌, ◌*◌, not, List, drop, is_some, Some, None, Ok, Option, sym, ap, ◌∙◌, arith}
 use Rattle.fields.proofs.Cuts.{cut_front, cut_back}
 use Rattle.layout.specs.declared.faults.LayoutFault.{LayoutFault}
 use Rattle.layout.specs.Reading.{Contents, fault_in, sets_of}

@@ -1,4 +1,4 @@
-use Rattle.std.proofs.Common.{◌≡◌, ℕ, ◌+◌, ◌*◌, not, List, drop, is_some, Some, None, Ok, Option, sym, ap, ◌∙◌, arith}
+use Rattle.std.proofs.Common.{ℕ, ◌+◌, ◌*◌, not, List, drop, is_some, Some, None, Ok, Option, sym, ap, ◌∙◌, arith}
 use Rattle.fields.proofs.Cuts.{cut_front, cut_back}
 use Rattle.moves.specs.declared.faults.MoveListFault.{MoveListFault}
 use Rattle.moves.specs.Reading.{Contents, fault_in, list_of}

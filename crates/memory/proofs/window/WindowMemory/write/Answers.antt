@@ -1,4 +1,4 @@
-use Rattle.std.proofs.Common.{◌≡◌, ℕ, ◌<◌, ◌≤◌, List, [], ◌∷◌, ◌++◌, length, sym, refl, ap, ◌∙◌, arith, le-ltb, lt-ltb}
+use Rattle.std.proofs.Common.{ℕ, ◌<◌, ◌≤◌, List, [], ◌∷◌, ◌++◌, length, sym, refl, ap, ◌∙◌, arith}
 use Rattle.memory.specs.Windows.{window_of, beyond_of}
 use Rattle.memory.proofs.Facts.{write_out, written_out}
 use Rattle.memory.proofs.Within.{inside, window_write, window_written, outside_same, below_in, below_out}
