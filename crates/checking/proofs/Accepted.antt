@@ -1,10 +1,10 @@
 -- A job that was read and fits is accepted with its figures.
-use Rattle.std.proofs.Common.{◌≡◌, ℕ, List, length, Ok, Err, Result, sym, ap, ◌∙◌, subst}
+use Rattle.std.proofs.Common.{◌≡◌, ℕ, length, Ok, Result, sym, ap, ◌∙◌, subst}
 use Rattle.job.specs.declared.faults.JobFault.{JobFault}
 use Rattle.job.specs.Reading.{Contents}
 use Rattle.fit.specs.Fitting.{All, placed, heard}
 use Rattle.checking.specs.declared.answers.JobFigures.{JobFigures}
-use Rattle.checking.specs.Checked.{Checked, figures_of}
+use Rattle.checking.specs.Checked.{Checked}
 
 figures : ℕ → ℕ → ℕ → JobFigures
 figures a b c = record { records = a; stages = b; moves = c }

@@ -1,5 +1,5 @@
 -- What was read and what was run, put together as an execution.
-use Rattle.std.proofs.Common.{◌≡◌, ℕ, ◌+◌, ◌-◌, Bool, List, ◌++◌, length, take, drop, Ok, Err, Result, sym, refl, ap, ◌∙◌, take-append-drop}
+use Rattle.std.proofs.Common.{◌≡◌, ℕ, ◌+◌, Bool, List, ◌++◌, length, take, drop, Ok, Result, sym, ap, ◌∙◌, take-append-drop}
 use Rattle.bounded_log.specs.declared.places.Log.{Log}
 use Rattle.image.specs.declared.faults.ImageFault.{ImageFault}
 use Rattle.image.specs.declared.images.Image.{Image}
@@ -12,7 +12,7 @@ use Rattle.stepper.specs.declared.state.Stepper.{Stepper}
 use Rattle.stepper.specs.Machine.{World, State, start, execution, records, logged}
 use Rattle.stepper.specs.View.{view, world_of, room, Ran}
 use Rattle.execution.specs.declared.answers.Execution.{Execution}
-use Rattle.execution.specs.Executed.{Executed, executed, executed_from, world_from, last, told}
+use Rattle.execution.specs.Executed.{Executed, executed, executed_from, last, told}
 
 -- the clauses of `execute`
 pub record Promised (table : Table) (bytes words words' : List ℕ) (log log' : Log Retirement) (r : Result Execution ImageFault) : Type 0 where

@@ -4,7 +4,6 @@ use Rattle.instruction.specs.declared.instructions.Instruction.{Instruction}
 use Rattle.instruction.specs.declared.instructions.Instruction.TheVariants.{Halt, Jump, Set, BranchZero, JumpRegister, Load, Store, Compute}
 use Rattle.instruction.specs.declared.instructions.Operand.{Operand}
 use Rattle.instruction.specs.declared.instructions.Operand.TheVariants as operand
-use Rattle.effect.specs.declared.actions.Effect.{Effect}
 use Rattle.effect.specs.declared.actions.Fetched.{Fetched}
 use Rattle.effect.specs.declared.actions.Sources.{Sources}
 use Rattle.effect.specs.Effects.{Table, following, effect_of}

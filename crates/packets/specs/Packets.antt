@@ -5,7 +5,6 @@ use Rattle.effect.specs.declared.actions.Action.{Action}
 use Rattle.effect.specs.declared.actions.Action.TheVariants.{Nothing, SetRegister, StoreWord, Trap, Halt}
 use Rattle.effect.specs.declared.actions.Effect.{Effect}
 use Rattle.effect.specs.declared.actions.Sources.{Sources}
-use Rattle.packets.specs.declared.bindings.Binding.{Binding}
 use Rattle.packets.specs.declared.bindings.Source.{Source}
 use Rattle.packets.specs.declared.bindings.Source.TheVariants.{Absent, Literal, Bound}
 use Rattle.packets.specs.declared.packets.Packet.{Packet}

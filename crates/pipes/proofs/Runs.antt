@@ -1,5 +1,5 @@
 -- A run, move by move, and the log that it fills.
-use Rattle.std.proofs.Common.{◌≡◌, ℕ, zero, suc, ◌+◌, ◌-◌, ◌<◌, ◌≤◌, Bool, true, false, cond, eqb, leb, List, [], ◌∷◌, ◌++◌, length, drop, set, Some, None, Ok, Err, Option, Result, sym, refl, ap, ◌∙◌, subst, add-one, arith, length-append, length-set}
+use Rattle.std.proofs.Common.{◌≡◌, ℕ, zero, suc, ◌+◌, ◌<◌, ◌≤◌, Bool, true, false, cond, eqb, leb, List, [], ◌∷◌, ◌++◌, length, drop, set, Some, None, Ok, Err, Option, Result, sym, refl, ap, ◌∙◌, subst, add-one, arith, length-append, length-set}
 use lib.Seq.{drop-length}
 use Rattle.std.specs.List.{slice_get}
 use Rattle.std.proofs.lemmas.Bool.{lt-ltb, lt-leb, le-leb, cond-true, cond-false}
@@ -16,8 +16,8 @@ use Rattle.pipes.specs.declared.answers.RunFigures.{RunFigures}
 use Rattle.pipes.specs.declared.answers.RunRefusal.{RunRefusal}
 use Rattle.pipes.specs.declared.answers.RunRefusal.TheVariants.{ShortLog}
 use Rattle.pipes.specs.declared.state.Pipes.{Pipes}
-use Rattle.pipes.specs.Questions.{asked, refusal_of}
-use Rattle.pipes.specs.Moving.{Left, Moved, moved_by, moved, accepted}
+use Rattle.pipes.specs.Questions.{refusal_of}
+use Rattle.pipes.specs.Moving.{Left, moved_by, moved, accepted}
 use Rattle.pipes.specs.Running.{Tally, begun, counted, tallied, retires, retirements, ran_from, ran, figures_of, figures_after, places_after, counted_after, Run, finished, not_begun, run_of}
 
 -- one move of a list, and those behind it

@@ -1,7 +1,6 @@
 -- A refused move changes nothing, and a move touches no stage but its own.
-use Rattle.std.proofs.Common.{◌≡◌, ℕ, ◌+◌, ◌-◌, List, get_or, set, Some, None, Ok, Err, Option, Result, sym, refl, ap, ◌∙◌, arith, get_or-set_other}
+use Rattle.std.proofs.Common.{◌≡◌, ℕ, ◌+◌, ◌-◌, List, get_or, set, Some, None, Err, Option, refl, ap, ◌∙◌, arith, get_or-set_other}
 use Rattle.effect.specs.declared.actions.Effect.{Effect}
-use Rattle.effect.specs.declared.actions.Retirement.{Retirement}
 use Rattle.moves.specs.declared.kinds.MoveKind.{MoveKind}
 use Rattle.moves.specs.declared.kinds.MoveKind.TheVariants.{Fetch, Raise, Lower, Execute, Insert, Read, Retire, Drop}
 use Rattle.moves.specs.Decoding.{kind_of}
@@ -14,7 +13,7 @@ use Rattle.pipes.specs.declared.state.FetchPoint.{FetchPoint}
 use Rattle.pipes.specs.declared.state.FetchPoint.TheVariants.{Open, Closed}
 use Rattle.pipes.specs.declared.state.Pipes.{Pipes}
 use Rattle.pipes.specs.Questions.{stage_at, packet_at, top, refusal_of}
-use Rattle.pipes.specs.Moving.{Left, Moved, moved_by, moved, accepted, accepted_by, fetched_from, vacated, writing_if, leaving_effect, retired_from}
+use Rattle.pipes.specs.Moving.{Left, moved_by, moved, accepted, accepted_by, fetched_from, vacated, writing_if, leaving_effect, retired_from}
 use Rattle.pipes.specs.Laws.{Apart, ApartBy}
 
 refused_by : (o : Option MoveRefusal) (P : Pipes) (words : List ℕ) (left : Left) (f : MoveRefusal) →

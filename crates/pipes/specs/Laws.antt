@@ -2,11 +2,7 @@
 use Rattle.std.specs.Prelude.{◌≡◌, ℕ, ◌+◌, ◌-◌, List, Some, None, Option, ◌≢◌}
 use Rattle.moves.specs.declared.kinds.MoveKind.{MoveKind}
 use Rattle.moves.specs.declared.kinds.MoveKind.TheVariants.{Fetch, Raise, Lower, Execute, Insert, Read, Retire, Drop}
-use Rattle.moves.specs.Decoding.{kind_of}
-use Rattle.stepper.specs.Machine.{World}
-use Rattle.pipes.specs.declared.state.Pipes.{Pipes}
-use Rattle.pipes.specs.Questions.{stage_at, top}
-use Rattle.pipes.specs.Moving.{moved}
+use Rattle.pipes.specs.Questions.{top}
 
 -- the stages of a move: no other stage is touched
 abbrev pub Apart : List ℕ → MoveKind → ℕ → ℕ → Type 0

@@ -1,5 +1,5 @@
 -- What an accepted move leaves, and what a move answers.
-use Rattle.std.specs.Prelude.{ℕ, ◌+◌, ◌-◌, Bool, true, false, cond, ◌||◌, List, length, replicate, Some, None, Ok, Err, Option, Result, slice_index, slice_set}
+use Rattle.std.specs.Prelude.{ℕ, ◌+◌, ◌-◌, Bool, true, false, cond, ◌||◌, List, replicate, Some, None, Ok, Err, Option, Result, slice_index, slice_set}
 use Rattle.std.specs.List.{slice_get}
 use Rattle.instruction.specs.declared.instructions.Instruction.{Instruction}
 use Rattle.instruction.specs.declared.instructions.Instruction.TheVariants as instruction

@@ -1,5 +1,5 @@
 -- A list of moves, one after another.
-use Rattle.std.specs.Prelude.{ℕ, ◌+◌, Bool, true, false, cond, List, [], ◌∷◌, ◌++◌, length, Some, None, Ok, Err, Option, Result, ◌==◌, nat_le}
+use Rattle.std.specs.Prelude.{ℕ, ◌+◌, cond, List, [], ◌∷◌, ◌++◌, length, Some, None, Ok, Err, Option, Result, ◌==◌, nat_le}
 use Rattle.bounded_log.specs.Entries.{added_to, count_after}
 use Rattle.effect.specs.declared.actions.Retirement.{Retirement}
 use Rattle.stepper.specs.Machine.{World}

@@ -1,5 +1,5 @@
 -- One step more of an execution and of its records, and what a halt leaves.
-use Rattle.std.proofs.Common.{◌≡◌, ℕ, zero, suc, ◌+◌, ◌-◌, ◌<◌, ◌≤◌, Bool, true, false, cond, List, [], ◌∷◌, ◌++◌, length, get_or, take, drop, set, Ok, Err, sym, refl, ap, ◌∙◌, subst, append_assoc, append-nil, add-one, arith, length-drop, length-set, take-append-drop, length-take, lt-ltb}
+use Rattle.std.proofs.Common.{◌≡◌, ℕ, zero, suc, ◌+◌, ◌-◌, ◌<◌, ◌≤◌, Bool, true, false, cond, List, [], ◌∷◌, ◌++◌, length, take, drop, set, Ok, Err, sym, refl, ap, ◌∙◌, subst, append_assoc, append-nil, arith, length-drop, length-set, take-append-drop, length-take, lt-ltb}
 use Rattle.std.proofs.lemmas.List.{take_more_set, take-set-le, drop-set-lt, drop-set-add, drop-drop}
 use Rattle.effect.specs.declared.actions.Retirement.{Retirement}
 use Rattle.stepper.specs.declared.state.StepFault.{StepFault}

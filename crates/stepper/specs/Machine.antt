@@ -10,7 +10,6 @@ use Rattle.instruction.specs.Operands.{operands_of}
 use Rattle.effect.specs.declared.actions.Action.{Action}
 use Rattle.effect.specs.declared.actions.Action.TheVariants.{Nothing, SetRegister, StoreWord, Trap, Halt}
 use Rattle.effect.specs.declared.actions.Effect.{Effect}
-use Rattle.effect.specs.declared.actions.Fetched.{Fetched}
 use Rattle.effect.specs.declared.actions.Retirement.{Retirement}
 use Rattle.effect.specs.declared.actions.Sources.{Sources}
 use Rattle.effect.specs.Effects.{Table, effect_of}

@@ -1,4 +1,4 @@
-use Rattle.std.proofs.Common.{◌≡◌, sym, ◌∙◌}
+use Rattle.std.proofs.Common.{sym, ◌∙◌}
 use Rattle.image.proofs.Programs.{length-program}
 use Rattle.checking.proofs.Accepted.{accepted}
 use Rattle.checking.proofs.jobs.check_job.Goals as goal

@@ -1,4 +1,4 @@
-use Rattle.std.proofs.Common.{◌≡◌, sym, ◌∙◌}
+use Rattle.std.proofs.Common.{sym, ◌∙◌}
 use Rattle.image.proofs.Programs.{length-program}
 use Rattle.checking.proofs.answers.JobFigures.of.Goals as goal
 

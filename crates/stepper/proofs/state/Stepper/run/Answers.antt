@@ -1,10 +1,10 @@
-use Rattle.std.proofs.Common.{◌≡◌, ℕ, ◌+◌, ◌<◌, ◌≤◌, List, length, set, sym, refl, ap, ◌∙◌, subst, arith, length-set}
+use Rattle.std.proofs.Common.{◌≡◌, ℕ, ◌<◌, length, set, sym, refl, ap, ◌∙◌, subst, arith, length-set}
 use Rattle.bounded_log.specs.declared.places.Log.{Log}
 use Rattle.effect.specs.declared.actions.Retirement.{Retirement}
 use Rattle.image.specs.declared.images.Image.{Image}
 use Rattle.stepper.specs.Machine.{answer_of, stepped}
 use Rattle.stepper.specs.View.{view, world_of, room, Ran}
-use Rattle.stepper.proofs.Executions.{Filled, halted_still, answered_ok, answered_err, reached_halt, reached_all, filled_none, filled_more, added_places, added_count, ran_by}
+use Rattle.stepper.proofs.Executions.{halted_still, answered_ok, answered_err, reached_halt, reached_all, filled_none, filled_more, added_places, added_count, ran_by}
 use Rattle.stepper.proofs.state.Stepper.run.Goals as goal
 
 pub loop-made-init : goal.loop-made-init
