@@ -1,5 +1,5 @@
 -- Every accepted move keeps the agreement.
-use Rattle.std.proofs.Common.{◌≡◌, ℕ, zero, suc, ◌+◌, ◌-◌, ◌%◌, ◌<◌, ◌≤◌, true, false, ◌&&◌, ◌||◌, ◌⊎◌, List, length, get_or, drop, set, Some, None, Option, sym, refl, ◌∙◌, subst, inl, inr, add-one, arith, length-set, get_or-set_other}
+use Rattle.std.proofs.Common.{◌≡◌, ℕ, Bool, zero, suc, ◌+◌, ◌-◌, ◌%◌, ◌<◌, ◌≤◌, true, false, cond, ◌&&◌, ◌||◌, ◌⊎◌, List, length, get_or, drop, set, Some, None, Option, sym, refl, ap, ◌∙◌, subst, inl, inr, add-one, arith, length-set, get_or-set_other}
 use Rattle.std.proofs.lemmas.Bool.{cases_lt, and_parts, or_parts}
 use Rattle.instruction.specs.declared.instructions.Instruction.{Instruction}
 use Rattle.instruction.specs.Named.{register}
@@ -8,7 +8,7 @@ use Rattle.effect.specs.declared.actions.Retirement.{Retirement}
 use Rattle.effect.specs.Changes.{halts}
 use Rattle.moves.specs.declared.kinds.MoveKind.{MoveKind}
 use Rattle.moves.specs.declared.kinds.MoveKind.TheVariants.{Fetch, Raise, Lower, Execute, Insert, Read, Retire, Drop}
-use Rattle.stepper.specs.Machine.{World, State, effect_at, stepped, retired}
+use Rattle.stepper.specs.Machine.{World, State, effect_at, applied, stepped, retired}
 use Rattle.packets.specs.declared.packets.Packet.{Packet}
 use Rattle.packets.specs.declared.packets.PacketState.{PacketState}
 use Rattle.packets.specs.declared.packets.PacketState.TheVariants.{Waiting, Executed}
@@ -25,7 +25,7 @@ use Rattle.pipes.specs.Moving.{Left, with_stages, with_stage, with_fetch, accept
 use Rattle.agreement.specs.Walk.{View, on, advanced, after, down, Ok, Good, Bottom, LiveAt, Agrees}
 use Rattle.agreement.specs.Layouts.{Laid}
 use Rattle.agreement.specs.Following.{onward, Next}
-use Rattle.agreement.proofs.Facts.{touches, untouched, registers_wide}
+use Rattle.agreement.proofs.Facts.{applied_parts, touches, untouched, registers_wide}
 use Rattle.agreement.proofs.Asking.{AtPacket, at_packet, fetch_asks, raise_asks, lower_asks, read_asks, execute_asks, insert_asks, retire_asks}
 use Rattle.agreement.proofs.Local.{Wide, MemoryIs, Same, Same2, raise_same, lower_same, execute_same, insert_same, read_same, killed_same, retire_same, top_live}
 use Rattle.agreement.proofs.Ends.{fetch_ok, drop_ok}
@@ -142,7 +142,7 @@ module _ (W : World) (sets : List ℕ) (laid : Laid sets) (S : State) (P : Pipes
   not_halted = sym a.same_mark ∙ going
 
   stepped_is : stepped W S ≡ advanced W S
-  stepped_is = rw not_halted
+  stepped_is = ap (λ (b : Bool). cond b S (applied (effect_at W S) S)) not_halted ∙ applied_parts (effect_at W S) S
 
   top_ok : Ok W (on S) (stage_at P (top sets))
   top_ok = rw (top_calm (on S)).0 at (ok_at W (on S) (top sets) P.stages (omega (arith, top_is, laid.high, a.sixteen)) good)

@@ -1,9 +1,9 @@
 -- The walk from the top stage to the bottom: the state that the next live packet below must execute in.
-use Rattle.std.specs.Prelude.{◌≡◌, ℕ, ◌≤◌, Bool, true, false, cond, not, ◌&&◌, List, [], ◌∷◌, length, Some, None, Option, slice_index}
+use Rattle.std.specs.Prelude.{◌≡◌, ℕ, ◌≤◌, Bool, true, false, cond, not, ◌&&◌, ◌||◌, List, [], ◌∷◌, length, Some, None, Option, slice_index}
 use Rattle.effect.specs.declared.actions.Action.{Action}
 use Rattle.effect.specs.declared.actions.Effect.{Effect}
-use Rattle.effect.specs.Changes.{halts}
-use Rattle.stepper.specs.Machine.{World, State, found_at, sources_of, effect_at, applied}
+use Rattle.effect.specs.Changes.{halts, registers_after, words_after}
+use Rattle.stepper.specs.Machine.{World, State, found_at, sources_of, effect_at}
 use Rattle.packets.specs.declared.bindings.Source.{Source}
 use Rattle.packets.specs.declared.bindings.Source.TheVariants.{Absent, Literal, Bound}
 use Rattle.packets.specs.declared.packets.Packet.{Packet}
@@ -44,9 +44,18 @@ abbrev pub flows : ℕ → Effect → PacketState → Bool
 flows guess effect Waiting = goes_on effect.action (owed_by guess effect.next effect.action)
 flows guess effect (Executed done owed) = goes_on done.action owed
 
+-- the state after an effect, part by part
+abbrev pub state_after : Effect → State → State
+state_after effect S = record {
+  place = effect.next;
+  registers = registers_after effect.action S.registers;
+  words = words_after effect.action S.words;
+  halted = halts effect.action || S.halted;
+}
+
 -- the state behind the next instruction
 abbrev pub advanced : World → State → State
-advanced W S = applied (effect_at W S) S
+advanced W S = state_after (effect_at W S) S
 
 abbrev pub passing : World → Bool → State → View
 passing W true S = on (advanced W S)
