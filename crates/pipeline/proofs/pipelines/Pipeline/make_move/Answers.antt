@@ -37,4 +37,4 @@ invariant_of-self g c =
     let laid = read_laid before.layout.parts before.layout.read in
     let W = world_of (g.U.Unit.table c.args.unit.now) before.image in
     let kept = moved_sound W sets before.pipes (g.M.Readable.words c.args.memory.now) before.fits laid.low laid.high before.sound c.args.kind c.args.place in
-    (before.fits, (subst (λ (P : Pipes). Sound sets P) (sym c.make_move.ensures.pipes) kept, tt))
+    record { fits = before.fits; sound = subst (λ (P : Pipes). Sound sets P) (sym c.make_move.ensures.pipes) kept }
