@@ -38,13 +38,13 @@ pub(crate) fn read(pipes: &mut Pipes, top: usize, register: u8)
 }
 
 /// Where fetch stands after a result has left.
-fn fetch_on(res: Option<PipeResult>, fetch: FetchPoint) -> FetchPoint
-    ensures { result ≡ fetch_on res fetch }
+fn fetch_on(dropped: Option<PipeResult>, fetch: FetchPoint) -> FetchPoint
+    ensures { result ≡ fetch_on dropped fetch }
 {
-    let Some(res) = res else {
+    let Some(dropped) = dropped else {
         return fetch;
     };
-    match res {
+    match dropped {
         PipeResult::Value { .. } => fetch,
         PipeResult::WrongBranch { target } => FetchPoint::Open { place: target },
         PipeResult::Trap { handler } => FetchPoint::Open { place: handler },

@@ -101,21 +101,21 @@ impl Packet {
     }
 
     /// Meets a result, and answers what goes on of it.
-    fn meet(&mut self, res: PipeResult) -> Option<PipeResult>
-        ensures packet { self.new ≡ met_packet self.old res }
-        ensures value { result ≡ met_result self.old res }
+    fn meet(&mut self, arriving: PipeResult) -> Option<PipeResult>
+        ensures packet { self.new ≡ met_packet self.old arriving }
+        ensures value { result ≡ met_result self.old arriving }
     {
         if let Standing::Killed = self.standing {
-            return Some(res);
+            return Some(arriving);
         }
-        match res {
+        match arriving {
             PipeResult::Value { register, word } => {
                 self.garner(register, word);
                 self.passed(register, word)
             }
             PipeResult::WrongBranch { .. } | PipeResult::Trap { .. } => {
                 self.kill();
-                Some(res)
+                Some(arriving)
             }
         }
     }

@@ -106,10 +106,10 @@ impl Stage {
     }
 
     /// A result comes from above, and meets the packet that stands here.
-    pub fn receive(&mut self, res: Option<PipeResult>)
-        ensures { self.new ≡ met self.old.packet res }
+    pub fn receive(&mut self, arriving: Option<PipeResult>)
+        ensures { self.new ≡ met self.old.packet arriving }
     {
-        self.result.held = res;
+        self.result.held = arriving;
         self.meet();
     }
 
