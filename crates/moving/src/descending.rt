@@ -38,13 +38,13 @@ pub(crate) fn read(pipes: &mut Pipes, top: usize, register: u8)
 }
 
 /// Where fetch stands after a result has left.
-fn fetch_on(dropped: Option<PipeResult>, fetch: FetchPoint) -> FetchPoint
-    ensures { result ≡ fetch_on dropped fetch }
+fn fetch_on(leaving: Option<PipeResult>, fetch: FetchPoint) -> FetchPoint
+    ensures { result ≡ fetch_on leaving fetch }
 {
-    let Some(dropped) = dropped else {
+    let Some(leaving) = leaving else {
         return fetch;
     };
-    match dropped {
+    match leaving {
         PipeResult::Value { .. } => fetch,
         PipeResult::WrongBranch { target } => FetchPoint::Open { place: target },
         PipeResult::Trap { handler } => FetchPoint::Open { place: handler },
