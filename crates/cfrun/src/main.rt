@@ -2,9 +2,9 @@
 #![tactic(auto)]
 
 use anyhow::anyhow;
+use bounded_log::{Log, WriteFault};
 use checking::JobFigures;
 use effect::{Action, Retirement};
-use bounded_log::{Log, WriteFault};
 use pipes::RunFigures;
 use running::{JobRun, run_job};
 use std::alloc::Global;

@@ -1,5 +1,5 @@
 -- A drain in code: the moves so far, and the log that has them.
-use Rattle.std.proofs.Common.{◌≡◌, ℕ, ◌+◌, ◌-◌, ◌<◌, ◌≤◌, true, false, List, [], ◌∷◌, ◌++◌, length, set, Some, None, Ok, Err, Option, Result, sym, refl, ap, ◌∙◌, subst, arith, length-append, length-set}
+use Rattle.std.proofs.Common.{◌≡◌, ℕ, ◌+◌, ◌<◌, ◌≤◌, true, false, List, [], ◌∷◌, ◌++◌, length, set, Some, None, Ok, Err, Option, Result, sym, refl, ap, ◌∙◌, subst, arith, length-append, length-set}
 use Rattle.std.proofs.lemmas.Bool.{lt-leb, le-leb}
 use Rattle.bounded_log.specs.declared.places.Log.{Log}
 use Rattle.bounded_log.specs.Entries.{logged, since, added_to, count_after}
@@ -15,7 +15,7 @@ use Rattle.pipes.specs.declared.answers.DrainRefusal.TheVariants.{Halted, ShortL
 use Rattle.pipes.specs.declared.answers.MoveRefusal.{MoveRefusal}
 use Rattle.pipes.specs.declared.state.Pipes.{Pipes}
 use Rattle.pipes.specs.Moving.{moved}
-use Rattle.pipes.specs.Draining.{bound, Drained, drain_refusal, Drains, DrainsIf}
+use Rattle.pipes.specs.Draining.{bound, drain_refusal, Drains, DrainsIf}
 use Rattle.draining.specs.Sound.{Sound}
 use Rattle.draining.specs.Policy.{chosen}
 use Rattle.draining.specs.Measure.{μ}

@@ -1,5 +1,5 @@
 -- Whatever calls are made, the pipes stay sound.
-use Rattle.std.proofs.Common.{◌≡◌, ℕ, ◌≤◌, Bool, true, false, cond, leb, List, [], ◌∷◌, length, Some, None, Ok, Err, Option, Result, sym, refl, ap, ◌∙◌, subst, arith}
+use Rattle.std.proofs.Common.{◌≡◌, ℕ, Bool, true, false, cond, leb, List, [], ◌∷◌, Some, None, Ok, Err, Option, Result, sym, refl, subst}
 use Rattle.fit.specs.Fitting.{All, placed}
 use Rattle.effect.specs.declared.actions.Retirement.{Retirement}
 use Rattle.moves.specs.declared.kinds.Move.{Move}
@@ -9,9 +9,8 @@ use Rattle.pipes.specs.declared.answers.Drain.{Drain}
 use Rattle.pipes.specs.declared.answers.DrainRefusal.{DrainRefusal}
 use Rattle.pipes.specs.declared.answers.MoveRefusal.{MoveRefusal}
 use Rattle.pipes.specs.declared.state.Pipes.{Pipes}
-use Rattle.pipes.specs.Moving.{moved}
-use Rattle.pipes.specs.Running.{Tally, begun, counted, moved_in, tallied, ran_from, ran, retirements, Run, finished, not_begun, run_of}
-use Rattle.pipes.specs.Draining.{drain_refusal, Drains, DrainsIf}
+use Rattle.pipes.specs.Running.{Tally, begun, counted, moved_in, tallied, ran_from, ran, retirements, finished, not_begun, run_of}
+use Rattle.pipes.specs.Draining.{drain_refusal, DrainsIf}
 use Rattle.draining.specs.Sound.{Sound}
 use Rattle.draining.proofs.Keeping.{fresh_sound, moved_sound}
 use Rattle.agreement.specs.Layouts.{Laid}

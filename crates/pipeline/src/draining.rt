@@ -5,8 +5,8 @@ ghost use Rattle.stepper.specs.View.{world_of};
 ghost use Rattle.pipes.specs.Draining.{bound, Drains};
 
 use crate::pipelines::Pipeline;
-use draining::choose;
 use bounded_log::Log;
+use draining::choose;
 use memory::{Memory, Readable};
 use moves::{Move, MoveKind};
 use pipes::{Drain, DrainRefusal};

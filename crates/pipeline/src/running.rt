@@ -6,8 +6,8 @@ ghost use Rattle.stepper.specs.View.{world_of};
 ghost use Rattle.pipes.specs.Running.{retires, retirements, figures_after, places_after, counted_after, run_of};
 
 use crate::pipelines::Pipeline;
-use effect::Retirement;
 use bounded_log::Log;
+use effect::Retirement;
 use memory::{Memory, Readable};
 use moves::{Move, MoveKind, MoveList};
 use pipes::{MoveRefusal, RunFigures, RunRefusal};

@@ -1,5 +1,5 @@
 -- What was read, fitted and run, put together.
-use Rattle.std.proofs.Common.{◌≡◌, ℕ, ◌+◌, ◌-◌, Bool, List, [], ◌++◌, length, take, drop, Ok, Err, Result, sym, refl, ap, ◌∙◌, subst, arith, take-append-drop}
+use Rattle.std.proofs.Common.{◌≡◌, ℕ, ◌+◌, ◌-◌, Bool, List, ◌++◌, length, take, drop, Ok, Err, Result, sym, refl, ap, ◌∙◌, subst, arith, take-append-drop}
 use Rattle.bounded_log.specs.declared.places.Log.{Log}
 use Rattle.image.specs.declared.images.Image.{Image}
 use Rattle.image.specs.declared.parts.ImageParts.{ImageParts}
@@ -18,7 +18,7 @@ use Rattle.job.specs.Reading.{Contents}
 use Rattle.checking.specs.declared.answers.CheckFault.{CheckFault}
 use Rattle.checking.specs.declared.answers.JobFigures.{JobFigures}
 use Rattle.checking.specs.declared.fitted.FittedJob.{FittedJob}
-use Rattle.checking.specs.Checked.{FittedAs, Fitting, Misfit, contents_of, figures_of, sizes}
+use Rattle.checking.specs.Checked.{FittedAs, Misfit, contents_of, figures_of}
 use Rattle.pipes.specs.declared.answers.RunFigures.{RunFigures}
 use Rattle.pipes.specs.declared.answers.RunRefusal.{RunRefusal}
 use Rattle.pipes.specs.declared.state.Pipes.{Pipes}
@@ -29,7 +29,7 @@ use Rattle.pipes.proofs.Runs.{run_refused}
 use Rattle.running.specs.declared.answers.JobRun.{JobRun}
 use Rattle.running.specs.declared.answers.JobRunFault.{JobRunFault}
 use Rattle.running.specs.declared.answers.JobRunFault.TheVariants as fault
-use Rattle.running.specs.Jobs.{run_in, world_in, RunsIf, JobRuns, Kept, kept, as_before, after_run}
+use Rattle.running.specs.Jobs.{run_in, world_in, RunsIf, JobRuns, kept}
 use Rattle.running.specs.Overs.{RanOver}
 
 -- the clauses of `run_job`

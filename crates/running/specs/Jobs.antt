@@ -1,12 +1,11 @@
 -- What running the bytes of a job answers and leaves.
-use Rattle.std.specs.Prelude.{◌≡◌, ℕ, ◌+◌, ◌-◌, List, [], ◌++◌, length, take, drop, Ok, Err, Result}
+use Rattle.std.specs.Prelude.{◌≡◌, ℕ, ◌+◌, ◌-◌, List, ◌++◌, length, take, drop, Ok, Err, Result}
 use Rattle.effect.specs.declared.actions.Retirement.{Retirement}
 use Rattle.effect.specs.Effects.{Table}
 use Rattle.bounded_log.specs.Entries.{logged}
 use Rattle.stepper.specs.Machine.{World}
 use Rattle.job.specs.declared.faults.JobFault.{JobFault}
 use Rattle.job.specs.Reading.{Contents}
-use Rattle.checking.specs.declared.answers.CheckFault.{CheckFault}
 use Rattle.checking.specs.declared.answers.CheckFault.TheVariants.{Job}
 use Rattle.checking.specs.Checked.{figures_of, Misfit, Fitting}
 use Rattle.pipes.specs.declared.answers.RunFigures.{RunFigures}

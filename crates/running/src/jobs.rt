@@ -8,12 +8,12 @@ ghost use Rattle.running.specs.Overs.{RanOver};
 ghost use Rattle.running.specs.Jobs.{JobRuns, kept};
 
 use crate::answers::{JobRun, JobRunFault};
+use bounded_log::Log;
 use checking::{FittedJob, JobFigures, fit_job};
 use effect::Retirement;
 use fit::Fitted;
 use image::Image;
 use layout::Layout;
-use bounded_log::Log;
 use memory::LentWords;
 use moves::MoveList;
 use pipeline::Pipeline;

@@ -1,7 +1,7 @@
-use Rattle.std.proofs.Common.{◌≡◌, ℕ, length, drop, sym, ap, ◌∙◌, arith}
+use Rattle.std.proofs.Common.{◌≡◌, ℕ, length, drop, ap, ◌∙◌, arith}
 use lib.Seq.{drop-length}
 use Rattle.moves.specs.Meaning.{moves_in}
-use Rattle.pipes.specs.Running.{retires, retirements}
+use Rattle.pipes.specs.Running.{retirements}
 use Rattle.pipes.proofs.Runs.{drop_nth, nth_none}
 use Rattle.pipeline.proofs.running.retirements.Goals as goal
 

@@ -1,17 +1,16 @@
-use Rattle.std.proofs.Common.{◌≡◌, ℕ, ◌+◌, ◌-◌, ◌<◌, ◌≤◌, length, Some, None, Ok, Err, Option, Result, sym, refl, ap, ◌∙◌, subst, arith}
+use Rattle.std.proofs.Common.{◌≡◌, ℕ, ◌-◌, ◌<◌, ◌≤◌, length, Ok, Option, sym, refl, ap, ◌∙◌, subst, arith}
 use Rattle.bounded_log.specs.declared.places.Log.{Log}
 use Rattle.effect.specs.declared.actions.Retirement.{Retirement}
 use Rattle.layout.specs.declared.layouts.Layout.{Layout}
 use Rattle.layout.specs.Meaning.{sets_in}
 use Rattle.moves.specs.declared.kinds.Move.{Move}
 use Rattle.stepper.specs.View.{world_of}
-use Rattle.pipes.specs.declared.answers.MoveRefusal.{MoveRefusal}
 use Rattle.pipes.specs.Moving.{Moved}
 use Rattle.pipes.specs.Draining.{bound}
 use Rattle.draining.specs.Policy.{chosen}
 use Rattle.agreement.proofs.Layouts.{read_laid}
 use Rattle.pipeline.proofs.Turns.{moved_as}
-use Rattle.pipeline.proofs.Draws.{drawing_none, never, few, drawing_falls, drawing_more, drew_refused, drew_last, refusal_halted, refusal_short, refusal_none, Drew, drew_as, drew_added}
+use Rattle.pipeline.proofs.Draws.{drawing_none, never, drawing_falls, drawing_more, drew_refused, drew_last, refusal_halted, refusal_short, refusal_none, Drew, drew_as, drew_added}
 use Rattle.pipeline.proofs.pipelines.Pipeline.drain.Goals as goal
 
 pub returns-then-self : goal.returns-then-self

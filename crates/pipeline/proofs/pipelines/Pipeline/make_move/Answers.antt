@@ -1,4 +1,4 @@
-use Rattle.std.proofs.Common.{ℕ, List, sym, refl, ap, ◌∙◌, subst}
+use Rattle.std.proofs.Common.{sym, refl, ap, ◌∙◌, subst}
 use Rattle.layout.specs.Meaning.{sets_in}
 use Rattle.stepper.specs.View.{world_of}
 use Rattle.pipes.specs.declared.state.Pipes.{Pipes}

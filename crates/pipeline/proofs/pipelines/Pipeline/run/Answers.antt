@@ -1,4 +1,4 @@
-use Rattle.std.proofs.Common.{◌≡◌, ℕ, ◌+◌, ◌-◌, ◌<◌, ◌≤◌, length, sym, refl, ap, ◌∙◌, subst, arith}
+use Rattle.std.proofs.Common.{◌≡◌, ◌+◌, ◌-◌, ◌<◌, ◌≤◌, length, refl, ap, ◌∙◌, arith}
 use Rattle.bounded_log.specs.declared.places.Log.{Log}
 use Rattle.effect.specs.declared.actions.Retirement.{Retirement}
 use Rattle.layout.specs.Meaning.{sets_in}
