@@ -31,9 +31,10 @@ fn every_shorter_length_of_two_records(rt: HostRuntime) {
 }
 
 #[test]
-fn each_letter_of_the_mark(rt: HostRuntime) -> Result<(), Fail> {
+fn each_letter_of_the_mark(rt: HostRuntime) {
     heads_are(
         &rt,
+        "the place is 0, whichever letter is wrong",
         &[
             (*b"CFP\x00\x01\x00\x01\x00\x00", None),
             (*b"BFP\x00\x01\x00\x01\x00\x00", Some((2, 0))),
@@ -49,14 +50,14 @@ fn each_letter_of_the_mark(rt: HostRuntime) -> Result<(), Fail> {
             ([0; 9], Some((2, 0))),
             ([255; 9], Some((2, 0))),
         ],
-    )
-    .note("the place is 0, whichever letter is wrong")
+    );
 }
 
 #[test]
-fn versions(rt: HostRuntime) -> Result<(), Fail> {
+fn versions(rt: HostRuntime) {
     heads_are(
         &rt,
+        "0, 1, 2, 256, 257 and 65,535",
         &[
             ([67, 70, 80, 0, 0, 0, 1, 0, 0], Some((3, 3))),
             ([67, 70, 80, 0, 1, 0, 1, 0, 0], None),
@@ -65,14 +66,14 @@ fn versions(rt: HostRuntime) -> Result<(), Fail> {
             ([67, 70, 80, 1, 1, 0, 1, 0, 0], Some((3, 3))),
             ([67, 70, 80, 255, 255, 0, 1, 0, 0], Some((3, 3))),
         ],
-    )
-    .note("0, 1, 2, 256, 257 and 65,535")
+    );
 }
 
 #[test]
-fn counts(rt: HostRuntime) -> Result<(), Fail> {
+fn counts(rt: HostRuntime) {
     heads_are(
         &rt,
+        "0, 1, 2, 4,096, 4,097 and 65,535",
         &[
             ([67, 70, 80, 0, 1, 0, 0, 0, 0], Some((4, 5))),
             ([67, 70, 80, 0, 1, 0, 1, 0, 0], None),
@@ -81,14 +82,14 @@ fn counts(rt: HostRuntime) -> Result<(), Fail> {
             ([67, 70, 80, 0, 1, 16, 1, 0, 0], Some((4, 5))),
             ([67, 70, 80, 0, 1, 255, 255, 0, 0], Some((4, 5))),
         ],
-    )
-    .note("0, 1, 2, 4,096, 4,097 and 65,535")
+    );
 }
 
 #[test]
-fn handlers(rt: HostRuntime) -> Result<(), Fail> {
+fn handlers(rt: HostRuntime) {
     heads_are(
         &rt,
+        "beside the counts 1, 256 and 4,096",
         &[
             ([67, 70, 80, 0, 1, 0, 1, 0, 1], Some((5, 7))),
             ([67, 70, 80, 0, 1, 0, 1, 1, 0], Some((5, 7))),
@@ -98,8 +99,7 @@ fn handlers(rt: HostRuntime) -> Result<(), Fail> {
             ([67, 70, 80, 0, 1, 16, 0, 15, 255], Some((6, 17))),
             ([67, 70, 80, 0, 1, 16, 0, 16, 0], Some((5, 7))),
         ],
-    )
-    .note("beside the counts 1, 256 and 4,096")
+    );
 }
 
 #[test]
@@ -160,7 +160,11 @@ fn most_records_short_or_too_many(rt: HostRuntime) -> Result<(), Fail> {
 fn bytes_after_the_image(rt: HostRuntime) -> Result<(), Fail> {
     let bytes = b"CFP\0\x01\0\x01\0\0\0\0\0\0\0\0\0\0\xff\0C\x07";
     let (_, rest) = read_image(bytes)?;
-    assert_eq!(rt; rest, &[255u8, 0, 67, 7], "four bytes follow, unread");
+    assert_eq!(rt;
+        rest,
+        [255u8, 0, 67, 7].as_slice(),
+        "four bytes follow, unread"
+    );
     Ok(())
 }
 

@@ -3,7 +3,6 @@ use fields::Refusal;
 use image::read_image;
 use std::alloc::{AllocError, Global};
 use std::process::Abort;
-use std::test::Fail;
 
 /// A record that halts.
 pub(crate) const HALT: [u8; 8] = [0; 8];
@@ -64,50 +63,44 @@ fn headed(head: [u8; 9]) -> [u8; 17] {
 }
 
 /// Each head, before one record that halts, has this answer.
-pub(crate) fn heads_are(
-    rt: &impl Abort,
-    table: &[([u8; 9], Option<(u8, usize)>)],
-) -> Result<(), Fail> {
+pub(crate) fn heads_are(rt: &impl Abort, text: &str, table: &[([u8; 9], Option<(u8, usize)>)]) {
     for (head, expected) in table {
         assert_eq!(rt;
             (*head, refusal_of(&headed(*head))),
             (*head, *expected),
-            "a head, one record"
+            "a head, one record: {text}"
         );
     }
-    Ok(())
 }
 
 /// Each record, alone in an image, is refused with this number and this byte place.
-pub(crate) fn refused(rt: &impl Abort, table: &[([u8; 8], u8, usize)]) -> Result<(), Fail> {
+pub(crate) fn refused(rt: &impl Abort, text: &str, table: &[([u8; 8], u8, usize)]) {
     for (record, number, place) in table {
         let told = (*record, refusal_of(&one(*record)));
-        assert_eq!(rt; told, (*record, Some((*number, *place))), "a record, alone");
+        assert_eq!(rt;
+            told,
+            (*record, Some((*number, *place))),
+            "a record, alone: {text}"
+        );
     }
-    Ok(())
 }
 
 /// Each two records, in an image, are refused with this number and this byte place.
-pub(crate) fn refused_pairs(
-    rt: &impl Abort,
-    table: &[([u8; 8], [u8; 8], u8, usize)],
-) -> Result<(), Fail> {
+pub(crate) fn refused_pairs(rt: &impl Abort, text: &str, table: &[([u8; 8], [u8; 8], u8, usize)]) {
     for (lower, higher, number, place) in table {
         let told = (*lower, *higher, refusal_of(&two(*lower, *higher)));
         let expected = (*lower, *higher, Some((*number, *place)));
-        assert_eq!(rt; told, expected, "two records");
+        assert_eq!(rt; told, expected, "two records: {text}");
     }
-    Ok(())
 }
 
 /// Each record, alone in an image, is read.
-pub(crate) fn accepted(rt: &impl Abort, table: &[[u8; 8]]) -> Result<(), Fail> {
+pub(crate) fn accepted(rt: &impl Abort, text: &str, table: &[[u8; 8]]) {
     for record in table {
         assert_eq!(rt;
             (*record, refusal_of(&one(*record))),
             (*record, None),
-            "a record, alone"
+            "a record, alone: {text}"
         );
     }
-    Ok(())
 }

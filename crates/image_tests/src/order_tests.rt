@@ -3,9 +3,10 @@ use crate::images::{HALT, halts, heads_are, refusal_of, refused, refused_pairs, 
 use std::test::Fail;
 
 #[test]
-fn questions_of_the_head(rt: HostRuntime) -> Result<(), Fail> {
+fn questions_of_the_head(rt: HostRuntime) {
     heads_are(
         &rt,
+        "the lowest number decides",
         &[
             ([67, 70, 0, 0, 2, 0, 0, 0, 9], Some((2, 0))),
             ([67, 70, 80, 0, 2, 0, 0, 0, 9], Some((3, 3))),
@@ -14,10 +15,8 @@ fn questions_of_the_head(rt: HostRuntime) -> Result<(), Fail> {
             ([67, 70, 80, 0, 1, 0, 9, 0, 9], Some((5, 7))),
             ([67, 70, 80, 0, 1, 0, 9, 0, 8], Some((6, 17))),
         ],
-    )
-    .note("the lowest number decides")?;
+    );
     assert_eq!(rt; refusal_of(&[0; 8]), Some((1, 8)), "1 before 2");
-    Ok(())
 }
 
 #[test]
@@ -32,23 +31,24 @@ fn length_before_records(rt: HostRuntime) {
 }
 
 #[test]
-fn operation_before_fields(rt: HostRuntime) -> Result<(), Fail> {
+fn operation_before_fields(rt: HostRuntime) {
     refused(
         &rt,
+        "7 before 8 and 9",
         &[
             ([7, 255, 255, 255, 255, 255, 255, 255], 7, 9),
             ([15, 16, 0, 0, 0, 0, 0, 0], 7, 9),
             ([32, 16, 16, 17, 0, 0, 0, 1], 7, 9),
             ([255, 0, 0, 0, 0, 0, 0, 1], 7, 9),
         ],
-    )
-    .note("7 before 8 and 9")
+    );
 }
 
 #[test]
-fn ranges_before_zeros(rt: HostRuntime) -> Result<(), Fail> {
+fn ranges_before_zeros(rt: HostRuntime) {
     refused(
         &rt,
+        "8 before 9, at whichever byte",
         &[
             ([2, 16, 1, 1, 0, 0, 0, 0], 8, 10),
             ([3, 2, 0, 1, 0, 0, 0, 0], 8, 10),
@@ -62,14 +62,14 @@ fn ranges_before_zeros(rt: HostRuntime) -> Result<(), Fail> {
             ([16, 0, 16, 0, 0, 0, 0, 1], 8, 11),
             ([16, 0, 0, 17, 0, 0, 0, 1], 8, 12),
         ],
-    )
-    .note("8 before 9, at whichever byte")
+    );
 }
 
 #[test]
-fn lowest_field_out_of_range(rt: HostRuntime) -> Result<(), Fail> {
+fn lowest_field_out_of_range(rt: HostRuntime) {
     refused(
         &rt,
+        "destination, then first, then second",
         &[
             ([3, 2, 16, 0, 0, 0, 0, 0], 8, 10),
             ([5, 16, 16, 0, 0, 0, 0, 0], 8, 10),
@@ -78,14 +78,14 @@ fn lowest_field_out_of_range(rt: HostRuntime) -> Result<(), Fail> {
             ([31, 15, 16, 17, 0, 0, 0, 0], 8, 11),
             ([31, 15, 15, 17, 0, 0, 0, 0], 8, 12),
         ],
-    )
-    .note("destination, then first, then second")
+    );
 }
 
 #[test]
-fn lowest_field_that_is_not_zero(rt: HostRuntime) -> Result<(), Fail> {
+fn lowest_field_that_is_not_zero(rt: HostRuntime) {
     refused(
         &rt,
+        "destination, then first, then second, then literal",
         &[
             ([0, 1, 1, 1, 0, 0, 0, 1], 9, 10),
             ([0, 0, 1, 1, 0, 0, 0, 1], 9, 11),
@@ -96,14 +96,14 @@ fn lowest_field_that_is_not_zero(rt: HostRuntime) -> Result<(), Fail> {
             ([2, 1, 1, 1, 0, 0, 0, 1], 9, 11),
             ([4, 1, 1, 1, 0, 0, 0, 1], 9, 10),
         ],
-    )
-    .note("destination, then first, then second, then literal")
+    );
 }
 
 #[test]
-fn fault_in_the_second_record(rt: HostRuntime) -> Result<(), Fail> {
+fn fault_in_the_second_record(rt: HostRuntime) {
     refused_pairs(
         &rt,
+        "record 1 begins at byte 17",
         &[
             (HALT, [7, 0, 0, 0, 0, 0, 0, 0], 7, 17),
             (HALT, [2, 16, 0, 0, 0, 0, 0, 0], 8, 18),
@@ -114,17 +114,17 @@ fn fault_in_the_second_record(rt: HostRuntime) -> Result<(), Fail> {
             (HALT, [1, 0, 0, 1, 0, 0, 0, 0], 9, 20),
             (HALT, [0, 0, 0, 0, 0, 0, 0, 1], 9, 21),
         ],
-    )
-    .note("record 1 begins at byte 17")
+    );
 }
 
 #[test]
-fn lower_record_before_higher(rt: HostRuntime) -> Result<(), Fail> {
+fn lower_record_before_higher(rt: HostRuntime) {
     let unknown = [7, 0, 0, 0, 0, 0, 0, 0];
     let outside = [2, 16, 0, 0, 0, 0, 0, 0];
     let unspared = [0, 0, 0, 0, 0, 0, 0, 1];
     refused_pairs(
         &rt,
+        "the lower record is named",
         &[
             (unknown, unspared, 7, 9),
             (outside, unknown, 8, 10),
@@ -132,8 +132,7 @@ fn lower_record_before_higher(rt: HostRuntime) -> Result<(), Fail> {
             (unspared, outside, 9, 13),
             (unspared, unspared, 9, 13),
         ],
-    )
-    .note("the lower record is named")
+    );
 }
 
 fn put(bytes: &mut [u8], at: usize, byte: u8) {

@@ -1,29 +1,28 @@
 //! The questions of a record, asked of one that stands alone in an image, at bytes 9 to 16.
 use crate::images::{accepted, one, refusal_of, refused};
-use std::test::Fail;
 
 #[test]
-fn operations_at_both_ends(rt: HostRuntime) -> Result<(), Fail> {
+fn operations_at_both_ends(rt: HostRuntime) {
     accepted(
         &rt,
+        "the first and the last of both ranges",
         &[
             [0, 0, 0, 0, 0, 0, 0, 0],
             [6, 0, 0, 0, 0, 0, 0, 0],
             [16, 0, 0, 0, 0, 0, 0, 0],
             [31, 0, 0, 0, 0, 0, 0, 0],
         ],
-    )
-    .note("the first and the last of both ranges")?;
+    );
     refused(
         &rt,
+        "beside both ranges",
         &[
             ([7, 0, 0, 0, 0, 0, 0, 0], 7, 9),
             ([15, 0, 0, 0, 0, 0, 0, 0], 7, 9),
             ([32, 0, 0, 0, 0, 0, 0, 0], 7, 9),
             ([255, 0, 0, 0, 0, 0, 0, 0], 7, 9),
         ],
-    )
-    .note("beside both ranges")
+    );
 }
 
 #[test]
@@ -37,9 +36,10 @@ fn every_operation(rt: HostRuntime) {
 }
 
 #[test]
-fn register_15_in_each_field(rt: HostRuntime) -> Result<(), Fail> {
+fn register_15_in_each_field(rt: HostRuntime) {
     accepted(
         &rt,
+        "15 is a register",
         &[
             [2, 15, 0, 0, 255, 255, 255, 255],
             [3, 0, 15, 0, 255, 255, 255, 255],
@@ -49,14 +49,14 @@ fn register_15_in_each_field(rt: HostRuntime) -> Result<(), Fail> {
             [16, 15, 15, 15, 0, 0, 0, 0],
             [31, 15, 15, 15, 0, 0, 0, 0],
         ],
-    )
-    .note("15 is a register")
+    );
 }
 
 #[test]
-fn register_16_in_each_field(rt: HostRuntime) -> Result<(), Fail> {
+fn register_16_in_each_field(rt: HostRuntime) {
     refused(
         &rt,
+        "16 is no register",
         &[
             ([2, 16, 0, 0, 0, 0, 0, 0], 8, 10),
             ([3, 0, 16, 0, 0, 0, 0, 0], 8, 11),
@@ -69,24 +69,24 @@ fn register_16_in_each_field(rt: HostRuntime) -> Result<(), Fail> {
             ([4, 0, 255, 0, 0, 0, 0, 0], 8, 11),
             ([6, 0, 0, 255, 0, 0, 0, 0], 8, 12),
         ],
-    )
-    .note("16 is no register")
+    );
 }
 
 #[test]
-fn fields_of_every_unit_operation(rt: HostRuntime) -> Result<(), Fail> {
+fn fields_of_every_unit_operation(rt: HostRuntime) {
     for operation in 16..32u8 {
         accepted(
             &rt,
+            "second is a register or 16",
             &[
                 [operation, 0, 0, 15, 0, 0, 0, 0],
                 [operation, 15, 15, 16, 0, 0, 0, 0],
                 [operation, 15, 15, 16, 255, 255, 255, 255],
             ],
-        )
-        .note("second is a register or 16")?;
+        );
         refused(
             &rt,
+            "a field out of range, or a literal that is not used",
             &[
                 ([operation, 16, 0, 0, 0, 0, 0, 0], 8, 10),
                 ([operation, 0, 16, 0, 0, 0, 0, 0], 8, 11),
@@ -95,31 +95,30 @@ fn fields_of_every_unit_operation(rt: HostRuntime) -> Result<(), Fail> {
                 ([operation, 0, 0, 15, 0, 0, 0, 1], 9, 13),
                 ([operation, 0, 0, 0, 1, 0, 0, 0], 9, 13),
             ],
-        )
-        .note("a field out of range, or a literal that is not used")?;
+        );
     }
-    Ok(())
 }
 
 #[test]
-fn hints(rt: HostRuntime) -> Result<(), Fail> {
+fn hints(rt: HostRuntime) {
     let known = [[3, 0, 0, 0, 0, 0, 0, 0], [3, 1, 0, 0, 0, 0, 0, 0]];
-    accepted(&rt, &known).note("0 and 1 are hints")?;
+    accepted(&rt, "0 and 1 are hints", &known);
     refused(
         &rt,
+        "2 is no hint",
         &[
             ([3, 2, 0, 0, 0, 0, 0, 0], 8, 10),
             ([3, 15, 0, 0, 0, 0, 0, 0], 8, 10),
             ([3, 255, 0, 0, 0, 0, 0, 0], 8, 10),
         ],
-    )
-    .note("2 is no hint")
+    );
 }
 
 #[test]
-fn unused_fields(rt: HostRuntime) -> Result<(), Fail> {
+fn unused_fields(rt: HostRuntime) {
     refused(
         &rt,
+        "an unused field is 0",
         &[
             ([0, 1, 0, 0, 0, 0, 0, 0], 9, 10),
             ([0, 0, 1, 0, 0, 0, 0, 0], 9, 11),
@@ -138,14 +137,14 @@ fn unused_fields(rt: HostRuntime) -> Result<(), Fail> {
             ([0, 0, 0, 255, 0, 0, 0, 0], 9, 12),
             ([4, 255, 0, 0, 0, 0, 0, 0], 9, 10),
         ],
-    )
-    .note("an unused field is 0")
+    );
 }
 
 #[test]
-fn each_byte_of_an_unused_literal(rt: HostRuntime) -> Result<(), Fail> {
+fn each_byte_of_an_unused_literal(rt: HostRuntime) {
     refused(
         &rt,
+        "the literal begins at byte 13",
         &[
             ([0, 0, 0, 0, 1, 0, 0, 0], 9, 13),
             ([0, 0, 0, 0, 0, 1, 0, 0], 9, 13),
@@ -154,6 +153,5 @@ fn each_byte_of_an_unused_literal(rt: HostRuntime) -> Result<(), Fail> {
             ([16, 0, 0, 0, 0, 128, 0, 0], 9, 13),
             ([31, 0, 0, 15, 0, 0, 128, 0], 9, 13),
         ],
-    )
-    .note("the literal begins at byte 13")
+    );
 }
