@@ -2,7 +2,6 @@
 use crate::told::{Told, told, two_stages};
 use layout::{Layout, read_layout};
 use std::process::Abort;
-use std::test::Fail;
 
 fn refusal_of(bytes: &[u8]) -> Told {
     match read_layout(bytes) {
@@ -30,26 +29,24 @@ fn headed(head: [u8; 6]) -> [u8; 70] {
 }
 
 /// Each head, before sixteen empty sets, has this answer.
-fn heads_are(rt: &impl Abort, table: &[([u8; 6], Told)]) -> Result<(), Fail> {
+fn heads_are(rt: &impl Abort, text: &str, table: &[([u8; 6], Told)]) {
     for (head, expected) in table {
         let found = refusal_of(&headed(*head));
         assert_eq!(rt;
             (*head, found),
             (*head, *expected),
-            "a head, sixteen empty sets"
+            "a head, sixteen empty sets: {text}"
         );
     }
-    Ok(())
 }
 
 /// The sets of the bottom and the top of two stages have this answer.
-fn sets_are(rt: &impl Abort, table: &[(u32, u32, Told)]) -> Result<(), Fail> {
+fn sets_are(rt: &impl Abort, text: &str, table: &[(u32, u32, Told)]) {
     for (bottom, top, expected) in table {
         let case = (*bottom, *top);
         let found = refusal_of(&two_stages(*bottom, *top));
-        assert_eq!(rt; (case, found), (case, *expected), "bottom, top");
+        assert_eq!(rt; (case, found), (case, *expected), "bottom, top: {text}");
     }
-    Ok(())
 }
 
 #[test]
@@ -64,9 +61,10 @@ fn every_shorter_length(rt: HostRuntime) {
 }
 
 #[test]
-fn each_letter_of_the_mark(rt: HostRuntime) -> Result<(), Fail> {
+fn each_letter_of_the_mark(rt: HostRuntime) {
     heads_are(
         &rt,
+        "the place is 0, whichever letter is wrong",
         &[
             (*b"CFL\0\x01\x02", None),
             (*b"BFL\0\x01\x02", Some((11, 0))),
@@ -80,14 +78,14 @@ fn each_letter_of_the_mark(rt: HostRuntime) -> Result<(), Fail> {
             ([0; 6], Some((11, 0))),
             ([255; 6], Some((11, 0))),
         ],
-    )
-    .note("the place is 0, whichever letter is wrong")
+    );
 }
 
 #[test]
-fn first_question_decides(rt: HostRuntime) -> Result<(), Fail> {
+fn first_question_decides(rt: HostRuntime) {
     heads_are(
         &rt,
+        "mark, version, stages; 13 before 14",
         &[
             (*b"CFM\0\x02\x01", Some((11, 0))),
             (*b"CFL\0\x02\x01", Some((12, 3))),
@@ -95,14 +93,14 @@ fn first_question_decides(rt: HostRuntime) -> Result<(), Fail> {
             (*b"CFL\0\x01\x12", Some((13, 5))),
             (*b"CFL\0\x01\xff", Some((13, 5))),
         ],
-    )
-    .note("mark, version, stages; 13 before 14")
+    );
 }
 
 #[test]
-fn versions(rt: HostRuntime) -> Result<(), Fail> {
+fn versions(rt: HostRuntime) {
     heads_are(
         &rt,
+        "0, 1, 2, 256, 257 and 65,535",
         &[
             (*b"CFL\0\0\x02", Some((12, 3))),
             (*b"CFL\0\x01\x02", None),
@@ -111,8 +109,7 @@ fn versions(rt: HostRuntime) -> Result<(), Fail> {
             (*b"CFL\x01\x01\x02", Some((12, 3))),
             (*b"CFL\xff\xff\x02", Some((12, 3))),
         ],
-    )
-    .note("0, 1, 2, 256, 257 and 65,535")
+    );
 }
 
 /// What a layout tells of an operation: how many stages there are, which of stages 0 to 3 and of one
@@ -160,9 +157,10 @@ fn head_before_length_before_sets(rt: HostRuntime) {
 }
 
 #[test]
-fn some_bits_of_the_bottom_set(rt: HostRuntime) -> Result<(), Fail> {
+fn some_bits_of_the_bottom_set(rt: HostRuntime) {
     sets_are(
         &rt,
+        "bits 0, 1, 2, 4, 5, 6, 7, 15, 16, 31 and several",
         &[
             (0, 0, None),
             (1, 0, Some((15, 6))),
@@ -179,14 +177,14 @@ fn some_bits_of_the_bottom_set(rt: HostRuntime) -> Result<(), Fail> {
             (4294901788, 0, None),
             (4294967295, 0, Some((15, 6))),
         ],
-    )
-    .note("bits 0, 1, 2, 4, 5, 6, 7, 15, 16, 31 and several")
+    );
 }
 
 #[test]
-fn some_bits_of_the_top_set(rt: HostRuntime) -> Result<(), Fail> {
+fn some_bits_of_the_top_set(rt: HostRuntime) {
     sets_are(
         &rt,
+        "bits 0, 1, 2, 5, 6, 7, 15, 16, 31 and several",
         &[
             (0, 1, Some((15, 10))),
             (0, 2, Some((15, 10))),
@@ -200,8 +198,7 @@ fn some_bits_of_the_top_set(rt: HostRuntime) -> Result<(), Fail> {
             (0, 4294901884, None),
             (0, 4294967295, Some((15, 10))),
         ],
-    )
-    .note("bits 0, 1, 2, 5, 6, 7, 15, 16, 31 and several")
+    );
 }
 
 /// May bit k of a set be 1: in the top stage, and below it?
@@ -223,9 +220,10 @@ fn every_bit(rt: HostRuntime) {
 }
 
 #[test]
-fn lower_stages_first(rt: HostRuntime) -> Result<(), Fail> {
+fn lower_stages_first(rt: HostRuntime) {
     sets_are(
         &rt,
+        "for each stage 15, then 16",
         &[
             (33, 0, Some((15, 6))),
             (192, 0, Some((15, 6))),
@@ -237,8 +235,7 @@ fn lower_stages_first(rt: HostRuntime) -> Result<(), Fail> {
             (4, 96, None),
             (4, 97, Some((15, 10))),
         ],
-    )
-    .note("for each stage 15, then 16")
+    );
 }
 
 #[test]

@@ -30,24 +30,22 @@ fn many(heap: Global, count: u16, moves: u16, one: [u8; 2]) -> Result<Vec<u8>, A
 }
 
 /// Each head, after which nothing follows, has this answer.
-fn heads_are(rt: &impl Abort, table: &[([u8; 7], Told)]) -> Result<(), Fail> {
+fn heads_are(rt: &impl Abort, text: &str, table: &[([u8; 7], Told)]) {
     for (head, expected) in table {
         assert_eq!(rt;
             (*head, refusal_of(head)),
             (*head, *expected),
-            "a head alone"
+            "a head alone: {text}"
         );
     }
-    Ok(())
 }
 
 /// Each two moves have this answer.
-fn pairs_are(rt: &impl Abort, table: &[([u8; 4], Told)]) -> Result<(), Fail> {
+fn pairs_are(rt: &impl Abort, text: &str, table: &[([u8; 4], Told)]) {
     for (moves, expected) in table {
         let found = refusal_of(&two(*moves));
-        assert_eq!(rt; (*moves, found), (*moves, *expected), "two moves");
+        assert_eq!(rt; (*moves, found), (*moves, *expected), "two moves: {text}");
     }
-    Ok(())
 }
 
 #[test]
@@ -62,9 +60,10 @@ fn every_shorter_length(rt: HostRuntime) {
 }
 
 #[test]
-fn each_letter_of_the_mark(rt: HostRuntime) -> Result<(), Fail> {
+fn each_letter_of_the_mark(rt: HostRuntime) {
     heads_are(
         &rt,
+        "the place is 0, whichever letter is wrong",
         &[
             (*b"CFM\0\x01\0\0", None),
             (*b"BFM\0\x01\0\0", Some((18, 0))),
@@ -78,14 +77,14 @@ fn each_letter_of_the_mark(rt: HostRuntime) -> Result<(), Fail> {
             ([0; 7], Some((18, 0))),
             ([255; 7], Some((18, 0))),
         ],
-    )
-    .note("the place is 0, whichever letter is wrong")
+    );
 }
 
 #[test]
-fn versions(rt: HostRuntime) -> Result<(), Fail> {
+fn versions(rt: HostRuntime) {
     heads_are(
         &rt,
+        "0, 1, 2, 256, 257 and 65,535",
         &[
             (*b"CFM\0\0\0\0", Some((19, 3))),
             (*b"CFM\0\x01\0\0", None),
@@ -94,14 +93,14 @@ fn versions(rt: HostRuntime) -> Result<(), Fail> {
             (*b"CFM\x01\x01\0\0", Some((19, 3))),
             (*b"CFM\xff\xff\0\0", Some((19, 3))),
         ],
-    )
-    .note("0, 1, 2, 256, 257 and 65,535")
+    );
 }
 
 #[test]
-fn counts(rt: HostRuntime) -> Result<(), Fail> {
+fn counts(rt: HostRuntime) {
     heads_are(
         &rt,
+        "0, 1, 256, 16,000, 16,001, 16,128 and 65,535",
         &[
             ([67, 70, 77, 0, 1, 0, 0], None),
             ([67, 70, 77, 0, 1, 0, 1], Some((21, 7))),
@@ -111,21 +110,20 @@ fn counts(rt: HostRuntime) -> Result<(), Fail> {
             ([67, 70, 77, 0, 1, 63, 0], Some((20, 5))),
             ([67, 70, 77, 0, 1, 255, 255], Some((20, 5))),
         ],
-    )
-    .note("0, 1, 256, 16,000, 16,001, 16,128 and 65,535")
+    );
 }
 
 #[test]
-fn first_question_decides(rt: HostRuntime) -> Result<(), Fail> {
+fn first_question_decides(rt: HostRuntime) {
     heads_are(
         &rt,
+        "mark, version, count; 20 before 21",
         &[
             (*b"CFL\0\x02\xff\xff", Some((18, 0))),
             (*b"CFM\0\x02\xff\xff", Some((19, 3))),
             (*b"CFM\0\x01\xff\xff", Some((20, 5))),
         ],
-    )
-    .note("mark, version, count; 20 before 21")?;
+    );
     let bytes = two([0, 16, 0, 16]);
     let found = (refusal_of(b"CFL\0\x02\xff"), refusal_of(&bytes[0..10]));
     assert_eq!(rt;
@@ -133,7 +131,6 @@ fn first_question_decides(rt: HostRuntime) -> Result<(), Fail> {
         (Some((17, 6)), Some((21, 10))),
         "17 before 18, 21 before 22"
     );
-    Ok(())
 }
 
 #[test]
@@ -163,9 +160,10 @@ fn places_of_every_kind(rt: HostRuntime) {
 }
 
 #[test]
-fn bounds_of_moves(rt: HostRuntime) -> Result<(), Fail> {
+fn bounds_of_moves(rt: HostRuntime) {
     pairs_are(
         &rt,
+        "kinds 0, 1, 8, 9; places 0, 1, 15, 16",
         &[
             ([0, 0, 1, 0], Some((22, 7))),
             ([1, 0, 1, 0], None),
@@ -182,14 +180,14 @@ fn bounds_of_moves(rt: HostRuntime) -> Result<(), Fail> {
             ([7, 0, 8, 1], Some((23, 10))),
             ([8, 0, 9, 0], Some((22, 9))),
         ],
-    )
-    .note("kinds 0, 1, 8, 9; places 0, 1, 15, 16")
+    );
 }
 
 #[test]
-fn lower_moves_first(rt: HostRuntime) -> Result<(), Fail> {
+fn lower_moves_first(rt: HostRuntime) {
     pairs_are(
         &rt,
+        "for each move 22, then 23",
         &[
             ([9, 16, 1, 0], Some((22, 7))),
             ([0, 1, 0, 1], Some((22, 7))),
@@ -198,8 +196,7 @@ fn lower_moves_first(rt: HostRuntime) -> Result<(), Fail> {
             ([1, 0, 9, 255], Some((22, 9))),
             ([8, 1, 8, 1], Some((23, 8))),
         ],
-    )
-    .note("for each move 22, then 23")
+    );
 }
 
 /// The list's count, the kind's number and the place of a move, and how many bytes follow.
