@@ -6,18 +6,19 @@ use std::test::Fail;
 fn sets_and_halts(rt: HostRuntime) -> Result<(), Fail> {
     yields(
         &rt,
+        "Set, Halt",
         rt.alloc(),
         0,
         &[(2, 0, 0, 0, 4294967295), (2, 15, 0, 0, 7), HALT],
         &[(0, 1, 0, 4294967295), (1, 1, 15, 7), (2, 4, 0, 0)],
     )
-    .note("Set, Halt")
 }
 
 #[test]
 fn jumps(rt: HostRuntime) -> Result<(), Fail> {
     yields(
         &rt,
+        "Jump on and back, JumpRegister to r3",
         rt.alloc(),
         0,
         &[
@@ -35,13 +36,13 @@ fn jumps(rt: HostRuntime) -> Result<(), Fail> {
             (2, 4, 0, 0),
         ],
     )
-    .note("Jump on and back, JumpRegister to r3")
 }
 
 #[test]
 fn branches(rt: HostRuntime) -> Result<(), Fail> {
     yields(
         &rt,
+        "BranchZero taken, then not, with either hint",
         rt.alloc(),
         0,
         &[
@@ -63,13 +64,13 @@ fn branches(rt: HostRuntime) -> Result<(), Fail> {
             (7, 4, 0, 0),
         ],
     )
-    .note("BranchZero taken, then not, with either hint")
 }
 
 #[test]
 fn loads_and_stores(rt: HostRuntime) -> Result<(), Fail> {
     yields(
         &rt,
+        "Store at 7, Load of 7 and 0, Store at 15, Load of 15",
         rt.alloc(),
         0,
         &[
@@ -93,13 +94,13 @@ fn loads_and_stores(rt: HostRuntime) -> Result<(), Fail> {
             (7, 4, 0, 0),
         ],
     )
-    .note("Store at 7, Load of 7 and 0, Store at 15, Load of 15")
 }
 
 #[test]
 fn addresses_wrap(rt: HostRuntime) -> Result<(), Fail> {
     yields(
         &rt,
+        "addresses 0, 0, 15 and 16",
         rt.alloc(),
         5,
         &[
@@ -119,13 +120,13 @@ fn addresses_wrap(rt: HostRuntime) -> Result<(), Fail> {
             (5, 4, 0, 0),
         ],
     )
-    .note("addresses 0, 0, 15 and 16")
 }
 
 #[test]
 fn computes_with_registers(rt: HostRuntime) -> Result<(), Fail> {
     yields(
         &rt,
+        "operations 16 to 25 on 20 and 6",
         rt.alloc(),
         0,
         &[
@@ -159,13 +160,13 @@ fn computes_with_registers(rt: HostRuntime) -> Result<(), Fail> {
             (12, 4, 0, 0),
         ],
     )
-    .note("operations 16 to 25 on 20 and 6")
 }
 
 #[test]
 fn computes_with_literals(rt: HostRuntime) -> Result<(), Fail> {
     yields(
         &rt,
+        "a second of 16 is the literal",
         rt.alloc(),
         0,
         &[
@@ -187,5 +188,4 @@ fn computes_with_literals(rt: HostRuntime) -> Result<(), Fail> {
             (6, 4, 0, 0),
         ],
     )
-    .note("a second of 16 is the literal")
 }

@@ -1,7 +1,7 @@
 //! Programs to try, and how their executions are compared.
+use bounded_log::Log;
 use effect::{Action, Retirement};
 use execution::execute;
-use bounded_log::Log;
 use std::alloc::Global;
 use std::process::Abort;
 use std::test::Fail;
@@ -53,6 +53,7 @@ fn difference(log: &[Retirement], lines: &[Line]) -> Option<(Line, Line)> {
 /// The bytes, executed over the words, make so many steps, halt or not, and leave these lines.
 pub(crate) fn leaves(
     rt: &impl Abort,
+    text: &str,
     bytes: &[u8],
     words: &mut [u32],
     log: &mut [Retirement],
@@ -65,7 +66,7 @@ pub(crate) fn leaves(
     assert_eq!(rt;
         found,
         (steps, halted, None),
-        "steps, halted, another line than is expected"
+        "steps, halted, another line than is expected: {text}"
     );
     Ok(())
 }
@@ -73,6 +74,7 @@ pub(crate) fn leaves(
 /// The same of the image of the rows.
 pub(crate) fn rows_leave(
     rt: &impl Abort,
+    text: &str,
     heap: Global,
     (handler, rows): (u16, &[Row]),
     words: &mut [u32],
@@ -81,12 +83,13 @@ pub(crate) fn rows_leave(
     lines: &[Line],
 ) -> Result<(), Fail> {
     let bytes = image_of(heap, handler, rows)?;
-    leaves(rt, &bytes, words, log, told, lines)
+    leaves(rt, text, &bytes, words, log, told, lines)
 }
 
 /// The rows, executed over sixteen words that are 0, halt after these lines.
 pub(crate) fn yields(
     rt: &impl Abort,
+    text: &str,
     heap: Global,
     handler: u16,
     rows: &[Row],
@@ -95,6 +98,7 @@ pub(crate) fn yields(
     let told = (lines.len(), true);
     rows_leave(
         rt,
+        text,
         heap,
         (handler, rows),
         &mut [0; 16],

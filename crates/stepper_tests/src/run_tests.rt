@@ -1,7 +1,7 @@
 //! Executions as a whole: how they end, and what they leave in words and log.
 use crate::programs::{HALT, Line, UNUSED, leaves, rows_leave};
-use execution::execute;
 use bounded_log::Log;
+use execution::execute;
 use std::test::Fail;
 use unit::WholeNumber;
 
@@ -17,27 +17,51 @@ fn endless_loop(rt: HostRuntime) -> Result<(), Fail> {
     let lines = [(0, 0, 0, 0); 2000];
     leaves(
         &rt,
+        "a jump to itself",
         bytes,
         &mut [],
         &mut [UNUSED; 2000],
         (2000, false),
         &lines,
     )
-    .note("a jump to itself")
 }
 
 #[test]
 fn log_beyond_the_steps(rt: HostRuntime) -> Result<(), Fail> {
     let lines = [(0, 1, 1, 3), (1, 4, 0, 0), STAYS, STAYS, STAYS];
-    leaves(&rt, &TWO, &mut [], &mut [UNUSED; 5], (2, true), &lines).note("three places stay")
+    leaves(
+        &rt,
+        "three places stay",
+        &TWO,
+        &mut [],
+        &mut [UNUSED; 5],
+        (2, true),
+        &lines,
+    )
 }
 
 #[test]
 fn length_of_the_log(rt: HostRuntime) -> Result<(), Fail> {
     let lines = [(0, 1, 1, 3), (1, 4, 0, 0)];
-    leaves(&rt, &TWO, &mut [], &mut [], (0, false), &[]).note("no place")?;
-    leaves(&rt, &TWO, &mut [], &mut [UNUSED], (1, false), &lines[0..1]).note("one place")?;
-    leaves(&rt, &TWO, &mut [], &mut [UNUSED; 2], (2, true), &lines).note("two places")
+    leaves(&rt, "no place", &TWO, &mut [], &mut [], (0, false), &[])?;
+    leaves(
+        &rt,
+        "one place",
+        &TWO,
+        &mut [],
+        &mut [UNUSED],
+        (1, false),
+        &lines[0..1],
+    )?;
+    leaves(
+        &rt,
+        "two places",
+        &TWO,
+        &mut [],
+        &mut [UNUSED; 2],
+        (2, true),
+        &lines,
+    )
 }
 
 #[test]
@@ -47,14 +71,14 @@ fn words_after_an_execution(rt: HostRuntime) -> Result<(), Fail> {
     let mut words = [5, 6, 7, 8];
     rows_leave(
         &rt,
+        "address 4 is outside of four words",
         rt.alloc(),
         (3, &rows),
         &mut words,
         &mut [UNUSED; 4],
         (4, true),
         &lines,
-    )
-    .note("address 4 is outside of four words")?;
+    )?;
     assert_eq!(rt;
         words,
         [7, 6, 7, 8],
@@ -68,8 +92,14 @@ fn bytes_after_the_image(rt: HostRuntime) -> Result<(), Fail> {
     let mut bytes = TWO;
     bytes[6] = 1;
     let lines = [(0, 1, 1, 3), (1, 3, 15, 196609), (0, 1, 1, 3)];
-    leaves(&rt, &bytes, &mut [], &mut [UNUSED; 3], (3, false), &lines).note(
+    leaves(
+        &rt,
         "the Halt after the image is not executed",
+        &bytes,
+        &mut [],
+        &mut [UNUSED; 3],
+        (3, false),
+        &lines,
     )
 }
 
@@ -116,17 +146,17 @@ fn more_words_than_a_memory_has(rt: HostRuntime) -> Result<(), Fail> {
     let mut words = [5; 65537];
     rows_leave(
         &rt,
+        "address 65,536 is outside of 65,537 words",
         rt.alloc(),
         (3, &rows),
         &mut words,
         &mut [UNUSED; 4],
         (4, true),
         &lines,
-    )
-    .note("address 65,536 is outside of 65,537 words")?;
+    )?;
     assert_eq!(rt;
         &words[65534..65537],
-        &[5, 9, 5],
+        [5, 9, 5].as_slice(),
         "only word 65,535 changes"
     );
     Ok(())

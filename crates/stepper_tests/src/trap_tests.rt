@@ -6,6 +6,7 @@ use std::test::Fail;
 fn outside_the_memory(rt: HostRuntime) -> Result<(), Fail> {
     yields(
         &rt,
+        "cause 2, at a Load of 16 and at a Store at 4,294,967,295",
         rt.alloc(),
         3,
         &[
@@ -28,7 +29,6 @@ fn outside_the_memory(rt: HostRuntime) -> Result<(), Fail> {
             (4, 4, 0, 0),
         ],
     )
-    .note("cause 2, at a Load of 16 and at a Store at 4,294,967,295")
 }
 
 #[test]
@@ -44,12 +44,12 @@ fn past_the_count(rt: HostRuntime) -> Result<(), Fail> {
     for (target, word) in table {
         yields(
             &rt,
+            "cause 3 after a Jump out of three records",
             rt.alloc(),
             2,
             &[(1, 0, 0, 0, target), HALT, HALT],
             &[(0, 0, 0, 0), (target, 3, 15, word), (2, 4, 0, 0)],
-        )
-        .note("cause 3 after a Jump out of three records")?;
+        )?;
     }
     Ok(())
 }
@@ -58,6 +58,7 @@ fn past_the_count(rt: HostRuntime) -> Result<(), Fail> {
 fn off_the_end(rt: HostRuntime) -> Result<(), Fail> {
     yields(
         &rt,
+        "cause 3 at the place after the last record",
         rt.alloc(),
         0,
         &[(3, 0, 15, 0, 2), HALT, (2, 1, 0, 0, 1)],
@@ -69,13 +70,13 @@ fn off_the_end(rt: HostRuntime) -> Result<(), Fail> {
             (1, 4, 0, 0),
         ],
     )
-    .note("cause 3 at the place after the last record")
 }
 
 #[test]
 fn quotient_by_zero(rt: HostRuntime) -> Result<(), Fail> {
     yields(
         &rt,
+        "cause 17 at place 4: r15 takes the word, r3 and r14 stay",
         rt.alloc(),
         6,
         &[
@@ -101,7 +102,6 @@ fn quotient_by_zero(rt: HostRuntime) -> Result<(), Fail> {
             (9, 4, 0, 0),
         ],
     )
-    .note("cause 17 at place 4: r15 takes the word, r3 and r14 stay")
 }
 
 #[test]
@@ -109,6 +109,7 @@ fn unknown_unit_operations(rt: HostRuntime) -> Result<(), Fail> {
     for operation in 26..32u8 {
         yields(
             &rt,
+            "cause 31 at place 2, and the destination stays",
             rt.alloc(),
             3,
             &[
@@ -124,8 +125,7 @@ fn unknown_unit_operations(rt: HostRuntime) -> Result<(), Fail> {
                 (3, 1, 1, 0),
                 (4, 4, 0, 0),
             ],
-        )
-        .note("cause 31 at place 2, and the destination stays")?;
+        )?;
     }
     Ok(())
 }
@@ -134,10 +134,10 @@ fn unknown_unit_operations(rt: HostRuntime) -> Result<(), Fail> {
 fn trap_at_the_handler(rt: HostRuntime) -> Result<(), Fail> {
     yields(
         &rt,
+        "the handler divides by r15, which is not 0 the second time",
         rt.alloc(),
         0,
         &[(24, 1, 0, 15, 0), HALT],
         &[(0, 3, 15, 1114112), (0, 1, 1, 0), (1, 4, 0, 0)],
     )
-    .note("the handler divides by r15, which is not 0 the second time")
 }
