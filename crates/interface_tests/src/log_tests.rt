@@ -1,6 +1,6 @@
 //! The log: full, empty, cleared, and its lines.
-use effect::{Action, Retirement};
 use bounded_log::{Log, LogFault};
+use effect::{Action, Retirement};
 use std::test::Fail;
 
 #[test]

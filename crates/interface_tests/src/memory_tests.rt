@@ -118,12 +118,20 @@ const MOST: [Access; 8] = [
 fn as_many_lent_words_as_a_memory_has(rt: HostRuntime) {
     let mut words = [5; 65536];
     answers_are(&rt, &mut LentWords::new(&mut words), 65536, &MOST);
-    assert_eq!(rt; &words[65534..65536], &[5, 7], "the last two words");
+    assert_eq!(rt;
+        &words[65534..65536],
+        [5, 7].as_slice(),
+        "the last two words"
+    );
 }
 
 #[test]
 fn one_lent_word_more(rt: HostRuntime) {
     let mut words = [5; 65537];
     answers_are(&rt, &mut LentWords::new(&mut words), 65536, &MOST);
-    assert_eq!(rt; &words[65534..65537], &[5, 7, 5], "the last word stays");
+    assert_eq!(rt;
+        &words[65534..65537],
+        [5, 7, 5].as_slice(),
+        "the last word stays"
+    );
 }
