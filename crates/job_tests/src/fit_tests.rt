@@ -46,36 +46,37 @@ fn refusal_of<'a>(image: &'a [u8], layout: &'a [u8]) -> Option<Told> {
 /// Three operations, the sets of the bottom and the top, and the answer.
 type Case = ([u8; 3], u32, u32, Told);
 
-fn answers_are(rt: &impl Abort, table: &[Case]) -> Result<(), Fail> {
+fn answers_are(rt: &impl Abort, text: &str, table: &[Case]) {
     for (operations, bottom, top, expected) in table {
         let case = (*operations, *bottom, *top);
         let found = refusal_of(&three(*operations), &two_stages(*bottom, *top));
         assert_eq!(rt;
             (case, found),
             (case, Some(*expected)),
-            "operations, bottom, top"
+            "operations, bottom, top: {text}"
         );
     }
-    Ok(())
 }
 
 #[test]
-fn halt_and_jump_need_no_stage(rt: HostRuntime) -> Result<(), Fail> {
+fn halt_and_jump_need_no_stage(rt: HostRuntime) {
     answers_are(
         &rt,
+        "operations 0 and 1 need no stage",
         &[
             ([0, 0, 0], 0, 0, None),
             ([1, 1, 1], 0, 0, None),
             ([0, 1, 0], BELOW, LOAD_AND_STORE, None),
             ([0, 2, 1], 0, 0, Some((25, 17))),
         ],
-    )
+    );
 }
 
 #[test]
-fn one_stage_is_enough(rt: HostRuntime) -> Result<(), Fail> {
+fn one_stage_is_enough(rt: HostRuntime) {
     answers_are(
         &rt,
+        "in the bottom, in the top, or in both",
         &[
             ([2, 3, 4], 28, 0, None),
             ([2, 3, 4], 0, 28, None),
@@ -85,14 +86,14 @@ fn one_stage_is_enough(rt: HostRuntime) -> Result<(), Fail> {
             ([16, 17, 25], 33751040, 0, None),
             ([2, 5, 16], 65540, 32, None),
         ],
-    )
-    .note("in the bottom, in the top, or in both")
+    );
 }
 
 #[test]
-fn no_stage(rt: HostRuntime) -> Result<(), Fail> {
+fn no_stage(rt: HostRuntime) {
     answers_are(
         &rt,
+        "one operation has no stage",
         &[
             ([2, 3, 4], 24, 0, Some((25, 9))),
             ([2, 3, 4], 4, 16, Some((25, 17))),
@@ -102,8 +103,7 @@ fn no_stage(rt: HostRuntime) -> Result<(), Fail> {
             ([0, 1, 16], 4294836252, 96, Some((25, 25))),
             ([0, 1, 25], 4261347356, 96, Some((25, 25))),
         ],
-    )
-    .note("one operation has no stage")
+    );
 }
 
 /// Every operation of a record that needs a stage.
@@ -130,9 +130,10 @@ fn every_operation(rt: HostRuntime) {
 }
 
 #[test]
-fn unknown_operations(rt: HostRuntime) -> Result<(), Fail> {
+fn unknown_operations(rt: HostRuntime) {
     answers_are(
         &rt,
+        "the unit knows 16 to 25",
         &[
             ([25, 25, 25], BELOW, 0, None),
             ([26, 0, 0], BELOW, 0, Some((26, 9))),
@@ -141,22 +142,21 @@ fn unknown_operations(rt: HostRuntime) -> Result<(), Fail> {
             ([31, 16, 2], 0, BELOW, Some((26, 9))),
             ([1, 0, 31], 0, BELOW, Some((26, 25))),
         ],
-    )
-    .note("the unit knows 16 to 25")
+    );
 }
 
 #[test]
-fn stages_before_known_operations(rt: HostRuntime) -> Result<(), Fail> {
+fn stages_before_known_operations(rt: HostRuntime) {
     answers_are(
         &rt,
+        "25 before 26",
         &[
             ([26, 0, 2], 67108864, 0, Some((25, 25))),
             ([2, 31, 0], 2147483648, 0, Some((25, 9))),
             ([31, 0, 0], 0, 0, Some((25, 9))),
             ([0, 0, 26], BELOW & 4227858431, 0, Some((25, 25))),
         ],
-    )
-    .note("25 before 26")
+    );
 }
 
 /// 4,095 records that halt, and one of this operation.

@@ -22,31 +22,29 @@ fn refusal_of(bytes: &[u8]) -> Told {
 }
 
 /// The job, with one byte changed, has this answer.
-fn changes_are(rt: &impl Abort, table: &[(usize, u8, Told)]) -> Result<(), Fail> {
+fn changes_are(rt: &impl Abort, text: &str, table: &[(usize, u8, Told)]) {
     for (at, byte, expected) in table {
         let mut bytes = JOB;
         put(&mut bytes, *at, *byte);
         let case = (*at, *byte);
-        assert_eq!(rt; (case, refusal_of(&bytes)), (case, *expected), "at, byte");
+        assert_eq!(rt;
+            (case, refusal_of(&bytes)),
+            (case, *expected),
+            "at, byte: {text}"
+        );
     }
-    Ok(())
 }
 
 /// The bytes, with these changes made one after the other, have these answers.
-fn answers_in_turn(
-    rt: &impl Abort,
-    bytes: &mut [u8],
-    table: &[(usize, u8, Told)],
-) -> Result<(), Fail> {
+fn answers_in_turn(rt: &impl Abort, text: &str, bytes: &mut [u8], table: &[(usize, u8, Told)]) {
     for (at, byte, expected) in table {
         put(bytes, *at, *byte);
         assert_eq!(rt;
             (*at, refusal_of(bytes)),
             (*at, *expected),
-            "all changes so far"
+            "all changes so far: {text}"
         );
     }
-    Ok(())
 }
 
 /// The number of the question that misses bytes in a job of so many.
@@ -80,9 +78,10 @@ fn every_shorter_length(rt: HostRuntime) {
 }
 
 #[test]
-fn refusals_of_the_image(rt: HostRuntime) -> Result<(), Fail> {
+fn refusals_of_the_image(rt: HostRuntime) {
     changes_are(
         &rt,
+        "the image begins at byte 0",
         &[
             (0, 66, Some((2, 0))),
             (2, 76, Some((2, 0))),
@@ -96,14 +95,14 @@ fn refusals_of_the_image(rt: HostRuntime) -> Result<(), Fail> {
             (10, 1, Some((9, 10))),
             (16, 1, Some((9, 13))),
         ],
-    )
-    .note("the image begins at byte 0")
+    );
 }
 
 #[test]
-fn refusals_of_the_layout(rt: HostRuntime) -> Result<(), Fail> {
+fn refusals_of_the_layout(rt: HostRuntime) {
     changes_are(
         &rt,
+        "the layout begins at byte 17",
         &[
             (17, 66, Some((11, 17))),
             (19, 80, Some((11, 17))),
@@ -120,14 +119,14 @@ fn refusals_of_the_layout(rt: HostRuntime) -> Result<(), Fail> {
             (30, 32, None),
             (27, 255, None),
         ],
-    )
-    .note("the layout begins at byte 17")
+    );
 }
 
 #[test]
-fn refusals_of_the_moves(rt: HostRuntime) -> Result<(), Fail> {
+fn refusals_of_the_moves(rt: HostRuntime) {
     changes_are(
         &rt,
+        "the list begins at byte 31",
         &[
             (31, 66, Some((18, 31))),
             (33, 76, Some((18, 31))),
@@ -143,23 +142,22 @@ fn refusals_of_the_moves(rt: HostRuntime) -> Result<(), Fail> {
             (40, 8, Some((23, 41))),
             (41, 0, None),
         ],
-    )
-    .note("the list begins at byte 31")
+    );
 }
 
 /// A part that claims more or fewer bytes moves the parts after it.
 #[test]
-fn other_sizes(rt: HostRuntime) -> Result<(), Fail> {
+fn other_sizes(rt: HostRuntime) {
     changes_are(
         &rt,
+        "where the next part or nothing should be",
         &[
             (6, 2, Some((7, 17))),
             (22, 3, Some((16, 27))),
             (37, 1, Some((24, 40))),
             (37, 0, Some((24, 38))),
         ],
-    )
-    .note("where the next part or nothing should be")
+    );
 }
 
 /// The job with a byte after it.
@@ -184,10 +182,11 @@ fn one_byte_left_over(rt: HostRuntime) {
 }
 
 #[test]
-fn first_part_decides(rt: HostRuntime) -> Result<(), Fail> {
+fn first_part_decides(rt: HostRuntime) {
     let mut bytes = longer(1);
     answers_in_turn(
         &rt,
+        "the last part first",
         &mut bytes,
         &[
             (41, 16, Some((23, 41))),
@@ -200,8 +199,7 @@ fn first_part_decides(rt: HostRuntime) -> Result<(), Fail> {
             (8, 1, Some((5, 7))),
             (0, 0, Some((2, 0))),
         ],
-    )
-    .note("the last part first")
+    );
 }
 
 #[test]
@@ -263,6 +261,7 @@ fn greatest_job(rt: HostRuntime) -> Result<(), Fail> {
     bytes.push(0)?;
     answers_in_turn(
         &rt,
+        "the last byte first",
         &mut bytes,
         &[
             (64854, 1, Some((24, 64854))),
@@ -274,8 +273,8 @@ fn greatest_job(rt: HostRuntime) -> Result<(), Fail> {
             (32782, 17, Some((13, 32782))),
             (32769, 7, Some((7, 32769))),
         ],
-    )
-    .note("the last byte first")
+    );
+    Ok(())
 }
 
 #[test]
