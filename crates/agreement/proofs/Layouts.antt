@@ -2,7 +2,7 @@
 use Rattle.std.proofs.Common.{◌≡◌, ℕ, ◌+◌, ◌*◌, ◌<◌, true, false, not, List, get_or, drop, is_some, None, ap, ◌∙◌, arith}
 use Rattle.std.proofs.lemmas.Bool.Decides.{nat_tests}
 use Rattle.fields.specs.Numbers.{holds}
-use Rattle.fields.proofs.Scans.{length-entries, get_d_entries, sound_at}
+use Rattle.fields.proofs.Scans.{length-entries, get_or-entries, sound_at}
 use Rattle.layout.specs.declared.parts.LayoutParts.{LayoutParts}
 use Rattle.layout.specs.Able.{able}
 use Rattle.layout.specs.Meaning.{WasRead, sets_in}
@@ -24,7 +24,7 @@ module _ (n : ℕ) (bytes : List ℕ) (sound : not (is_some (fault_in n n 0 byte
   read_memory s l =
       let count = length-entries set_in 4 n bytes in
       let here : s < n = omega arith in
-      let is = get_d_entries set_in 4 n s bytes 0 here in
+      let is = get_or-entries set_in 4 n s bytes 0 here in
       let clear = bits_clear (set_in (drop (4 * s) bytes)) (sound_set n s (set_in (drop (4 * s) bytes)) (omega arith) (sound_at (set_fault_at n) 4 n s bytes here sound)) in (
         unable (sets_of n bytes) s 5 (ap (λ set. holds set 5) is ∙ clear.0),
         unable (sets_of n bytes) s 6 (ap (λ set. holds set 6) is ∙ clear.1),

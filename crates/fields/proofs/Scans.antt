@@ -72,7 +72,7 @@ module _ {A : Type 0} (entry : List ℕ → A) (width : ℕ) where
   nth-entries (suc n) zero bs l = ap Some (at_first bs)
   nth-entries (suc n) (suc p) bs l = ap Some (onward p bs) ∙ nth-entries n p (drop width bs) (omega arith)
 
-  pub get_d_entries : (n p : ℕ) (bs : List ℕ) (d : A) → p < n → get_or (entries_of entry width n bs) p d ≡ entry (drop (width * p) bs)
-  get_d_entries zero p bs d l = absurd (omega arith)
-  get_d_entries (suc n) zero bs d l = sym (at_first bs)
-  get_d_entries (suc n) (suc p) bs d l = get_d_entries n p (drop width bs) d (omega arith) ∙ sym (onward p bs)
+  pub get_or-entries : (n p : ℕ) (bs : List ℕ) (d : A) → p < n → get_or (entries_of entry width n bs) p d ≡ entry (drop (width * p) bs)
+  get_or-entries zero p bs d l = absurd (omega arith)
+  get_or-entries (suc n) zero bs d l = sym (at_first bs)
+  get_or-entries (suc n) (suc p) bs d l = get_or-entries n p (drop width bs) d (omega arith) ∙ sym (onward p bs)

@@ -1,7 +1,7 @@
 -- The sets of stages in a row: how many there are, and which is a stage's.
 use Rattle.std.proofs.Common.{◌≡◌, ℕ, ◌+◌, ◌*◌, ◌<◌, List, length, get_or, drop, ap, ◌∙◌, arith, get_or-drop}
 use Rattle.fields.specs.Numbers.{byte_at, four_at}
-use Rattle.fields.proofs.Scans.{length-entries, get_d_entries}
+use Rattle.fields.proofs.Scans.{length-entries, get_or-entries}
 use Rattle.layout.specs.Reading.{set_in, sets_of}
 
 pub length-sets : (n : ℕ) (bs : List ℕ) → length (sets_of n bs) ≡ n
@@ -21,4 +21,4 @@ four_on bs m =
     rw (a, b, c, d)
 
 pub set_at : (n k : ℕ) (bs : List ℕ) → k < n → get_or (sets_of n bs) k 0 ≡ four_at bs (4 * k)
-set_at n k bs l = get_d_entries set_in 4 n k bs 0 l ∙ four_on bs (4 * k)
+set_at n k bs l = get_or-entries set_in 4 n k bs 0 l ∙ four_on bs (4 * k)
