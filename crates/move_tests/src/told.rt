@@ -1,5 +1,5 @@
 //! What stands in a pipeline, told so that it can be compared.
-use packets::{Packet, PacketState, PipeResult, ResultSlot, Source, Stage};
+use packets::{Packet, PacketState, PipeResult, Source, Stage};
 
 /// A result: a register's number and its word, or the place where fetch goes on.
 #[derive(Clone, Copy, Debug, PartialEq)]
@@ -25,8 +25,8 @@ pub(crate) const KILLED: bool = false;
 /// as they have come.
 pub(crate) type ToldPacket = (u32, bool, Work, [Option<u32>; 2]);
 
-fn told_result(res: PipeResult) -> News {
-    match res {
+fn told_result(found: PipeResult) -> News {
+    match found {
         PipeResult::Value { register, word } => News::Value(register.number(), word),
         PipeResult::WrongBranch { target } => News::WrongBranch(target),
         PipeResult::Trap { handler } => News::Trap(handler),
