@@ -1,8 +1,6 @@
 //! Jobs to run, and how what they leave is compared.
-use checking::JobFigures;
-use effect::{Action, Retirement};
 use bounded_log::Log;
-use pipes::RunFigures;
+use effect::{Action, Retirement};
 use running::{JobRun, JobRunFault, run_job};
 use std::alloc::Global;
 use std::process::Abort;

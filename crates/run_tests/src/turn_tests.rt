@@ -1,14 +1,13 @@
 //! Runs on one pipeline, one after the other.
-use crate::jobs::{JOB, KEPT, Line, STAYS, UNUSED, add_moves, begin, places_hold};
+use crate::jobs::{JOB, KEPT, STAYS, UNUSED, add_moves, begin, places_hold};
+use bounded_log::Log;
 use effect::Retirement;
 use fit::{Fitted, fit};
 use image::{Image, read_image};
 use layout::{Layout, read_layout};
-use bounded_log::Log;
 use memory::OwnWords;
 use moves::{MoveList, read_moves};
 use pipeline::Pipeline;
-use pipes::RunFigures;
 use std::alloc::Global;
 use std::process::Abort;
 use std::test::Fail;
