@@ -4,7 +4,7 @@
 pub use pipelines::Pipeline;
 
 mod building;
-mod draining;
+mod drains;
 mod making;
 mod pipelines;
 mod running;
