@@ -3,7 +3,8 @@ use Rattle.std.proofs.Common.{◌≡◌, ℕ, Bool, true, false, cond, List, len
 use Rattle.instruction.specs.declared.instructions.Operand.{Operand}
 use Rattle.effect.specs.declared.actions.Effect.{Effect}
 use Rattle.effect.specs.Effects.{effect_of}
-use Rattle.stepper.specs.Machine.{World, State, word_of, operands_at, effect_at, found_at, sources_of}
+use Rattle.stepper.specs.Machine.{World, State, word_of, effect_at, found_at, sources_of}
+use Rattle.instruction.specs.Operands.{operands_at}
 use Rattle.packets.specs.declared.packets.Packet.{Packet}
 use Rattle.packets.specs.declared.packets.PacketState.TheVariants.{Waiting}
 use Rattle.packets.specs.declared.results.PipeResult.{PipeResult}
@@ -11,8 +12,6 @@ use Rattle.packets.specs.declared.stages.Stage.{Stage}
 use Rattle.packets.specs.Packets.{owed_by, executed_as}
 use Rattle.packets.specs.Entering.{at_once, no_words, source_for, entering}
 use Rattle.packets.specs.Stages.{staged, result_in, met}
-use Rattle.pipes.specs.declared.state.FetchPoint.{FetchPoint}
-use Rattle.pipes.specs.declared.state.FetchPoint.TheVariants.{Open}
 use Rattle.pipes.specs.Moving.{fetch_behind, fetched_at, fetch_on}
 use Rattle.agreement.specs.Walk.{View, on, lost, goes_on, flows, passing, after_result, after_live, after_packet, after, Sourced, ResultOk, StateAt, LiveAt, PacketOk, Ok, Bottom}
 use Rattle.agreement.proofs.Facts.{at_once_lem, guessed, owed_right}
@@ -54,13 +53,13 @@ module _ (W : World) (words : List ℕ) (S : State) where
       behind-it false e = tt
       behind-it true e =
           let g = guessed W.table W.handler S.place (found_at W S) S.words (sources_of S.registers (found_at W S)) e in
-          rw g.0 (ap Open g.1)
+          rw g.0 (ap Some g.1)
 
 module _ (W : World) (words : List ℕ) where
   abbrev enters : ℕ → Packet
   enters place = entering W.table words W.handler (fetched_at W place)
 
-  entering_ok : (v : View) (place : ℕ) → Wide v → Bottom v (Open place) →
+  entering_ok : (v : View) (place : ℕ) → Wide v → Bottom v (Some place) →
       PacketOk W v (Some (enters place)) × Bottom (after_packet W v (Some (enters place))) (fetch_behind (fetched_at W place))
   entering_ok lost place z h = (tt, tt)
   entering_ok (on S) place z h =
@@ -68,7 +67,7 @@ module _ (W : World) (words : List ℕ) where
       rw e (entering_at W words S z)
 
   -- FETCH
-  pub fetch_ok : (v : View) (x : Stage) (place : ℕ) → Wide v → x.packet ≡ None → Ok W v x → Bottom (after W v x) (Open place) →
+  pub fetch_ok : (v : View) (x : Stage) (place : ℕ) → Wide v → x.packet ≡ None → Ok W v x → Bottom (after W v x) (Some place) →
       Ok W v (met (Some (enters place)) (result_in x)) × Bottom (after W v (met (Some (enters place)) (result_in x))) (fetch_behind (fetched_at W place))
   fetch_ok v x place z e o b =
       let u = after_result v (result_in x) in
@@ -77,7 +76,7 @@ module _ (W : World) (words : List ℕ) where
       (cross_ok W v (Some (enters place)) (result_in x) z (rw e at o.1) k.0, rw (cross_view W v (Some (enters place)) (result_in x)) k.1)
 
 -- DROP
-pub drop_ok : (W : World) (v : View) (x : Stage) (fetch : FetchPoint) → Ok W v x → Bottom (after W v x) fetch →
+pub drop_ok : (W : World) (v : View) (x : Stage) (fetch : Option ℕ) → Ok W v x → Bottom (after W v x) fetch →
     Ok W v (staged x.packet None) × Bottom (after W v (staged x.packet None)) (fetch_on (result_in x) fetch)
 drop_ok W v x fetch o b = (drop_stage, dropped (after_packet W v x.packet) (result_in x) o.1 b)
   where

@@ -6,7 +6,6 @@ use Rattle.instruction.specs.declared.numbers.UnitOp.{UnitOp}
 use Rattle.instruction.specs.declared.instructions.Instruction.{Instruction}
 use Rattle.instruction.specs.declared.instructions.Instruction.TheVariants as instruction
 use Rattle.effect.specs.declared.actions.Action.{Action}
-use Rattle.effect.specs.declared.actions.Action.TheVariants.{Nothing, SetRegister, StoreWord, Trap, Halt}
 use Rattle.effect.specs.declared.actions.Effect.{Effect}
 use Rattle.effect.specs.declared.actions.Fetched.{Fetched}
 use Rattle.effect.specs.declared.actions.Sources.{Sources}
@@ -20,7 +19,7 @@ use Rattle.packets.specs.Meeting.{destination_of, names, behind}
 use Rattle.pipes.specs.Moving.{closes}
 use Rattle.pipes.specs.Questions.{able_for}
 use Rattle.agreement.specs.Statement.{Alike}
-use Rattle.agreement.specs.Walk.{goes_on, state_after, ResultAt}
+use Rattle.agreement.specs.Walk.{goes_on, ResultAt}
 
 -- does an instruction read or write memory
 abbrev pub touches : Option Instruction → Bool
@@ -76,20 +75,9 @@ behind_is action register registers h = grind (arith, nat_tests, get_or-set_same
 pub registers_wide : (action : Action) (registers : List ℕ) → length registers ≡ 16 → length (registers_after action registers) ≡ 16
 registers_wide action registers h = grind (arith, length-set)
 
--- the state after an effect, as a step of the sequential machine makes it, part by part
-pub applied_parts : (effect : Effect) (S : State) → applied effect S ≡ state_after effect S
-applied_parts effect S = by_action effect.action
-  where
-    by_action : (action : Action) → applied (record { action = action; next = effect.next }) S ≡ state_after (record { action = action; next = effect.next }) S
-    by_action Nothing = refl
-    by_action (SetRegister register word) = refl
-    by_action (StoreWord address word) = refl
-    by_action (Trap word) = refl
-    by_action Halt = refl
-
 -- what an effect owes is right behind it
 pub owed_right : (effect : Effect) (S : State) (guess : ℕ) → length S.registers ≡ 16 →
-    ResultAt (state_after effect S) (owed_by guess effect.next effect.action)
+    ResultAt (applied effect S) (owed_by guess effect.next effect.action)
 owed_right effect S guess h = grind (arith, nat_tests, get_or-set_same)
 
 -- tables that are alike give the same effects

@@ -3,9 +3,9 @@ use Rattle.std.proofs.Common.{◌≡◌, ℕ, ◌+◌, ◌*◌, ◌<◌, true, f
 use Rattle.std.proofs.lemmas.Bool.Decides.{nat_tests}
 use Rattle.fields.specs.Numbers.{holds}
 use Rattle.fields.proofs.Scans.{length-entries, get_or-entries, sound_at}
-use Rattle.layout.specs.declared.parts.LayoutParts.{LayoutParts}
+use Rattle.layout.specs.declared.layouts.Layout.{Layout}
 use Rattle.layout.specs.Able.{able}
-use Rattle.layout.specs.Meaning.{WasRead, sets_in}
+use Rattle.layout.specs.Meaning.{sets_in}
 use Rattle.layout.specs.Reading.{memoryless, set_fault, set_fault_at, fault_in, set_in, sets_of}
 use Rattle.agreement.specs.Layouts.{MemoryAtTop, Laid}
 
@@ -30,11 +30,12 @@ module _ (n : ℕ) (bytes : List ℕ) (sound : not (is_some (fault_in n n 0 byte
         unable (sets_of n bytes) s 6 (ap (λ set. holds set 6) is ∙ clear.1),
       )
 
-pub read_laid : (p : LayoutParts) → WasRead p → Laid (sets_in p)
-read_laid p h =
-    let count = length-entries set_in 4 p.stages p.sets.now in
+pub read_laid : (l : Layout) → Laid (sets_in l)
+read_laid l =
+    let count = length-entries set_in 4 l.stages l.sets.now in
+    let read = l.read in
     record {
       low = omega arith;
       high = omega arith;
-      memory = read_memory p.stages p.sets.now h.3;
+      memory = read_memory l.stages l.sets.now read.3;
     }

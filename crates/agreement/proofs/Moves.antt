@@ -17,15 +17,13 @@ use Rattle.packets.specs.declared.packets.Standing.TheVariants.{Live, Killed}
 use Rattle.packets.specs.declared.stages.Stage.{Stage}
 use Rattle.packets.specs.Packets.{ready, may_execute, may_insert, may_retire}
 use Rattle.packets.specs.Stages.{staged, vacant, result_in, met, executing, inserting}
-use Rattle.pipes.specs.declared.state.FetchPoint.{FetchPoint}
-use Rattle.pipes.specs.declared.state.FetchPoint.TheVariants.{Open, Closed}
 use Rattle.pipes.specs.declared.state.Pipes.{Pipes}
 use Rattle.pipes.specs.Questions.{stage_at, packet_at, top, able_for, asked}
 use Rattle.pipes.specs.Moving.{Left, with_stages, with_stage, with_fetch, accepted, fetched_from, fetch_on, vacated, read_value, writing, writing_if, leaving_effect, retired_from}
 use Rattle.agreement.specs.Walk.{View, on, advanced, after, down, Ok, Good, Bottom, LiveAt, Agrees}
 use Rattle.agreement.specs.Layouts.{Laid}
 use Rattle.agreement.specs.Following.{onward, Next}
-use Rattle.agreement.proofs.Facts.{applied_parts, touches, untouched, registers_wide}
+use Rattle.agreement.proofs.Facts.{touches, untouched, registers_wide}
 use Rattle.agreement.proofs.Asking.{AtPacket, at_packet, fetch_asks, raise_asks, lower_asks, read_asks, execute_asks, insert_asks, retire_asks}
 use Rattle.agreement.proofs.Local.{Wide, MemoryIs, Same, Same2, raise_same, lower_same, execute_same, insert_same, read_same, killed_same, retire_same, top_live}
 use Rattle.agreement.proofs.Ends.{fetch_ok, drop_ok}
@@ -142,7 +140,7 @@ module _ (W : World) (sets : List ℕ) (laid : Laid sets) (S : State) (P : Pipes
   not_halted = sym a.same_mark ∙ going
 
   stepped_is : stepped W S ≡ advanced W S
-  stepped_is = ap (λ (b : Bool). cond b S (applied (effect_at W S) S)) not_halted ∙ applied_parts (effect_at W S) S
+  stepped_is = ap (λ (b : Bool). cond b S (applied (effect_at W S) S)) not_halted
 
   top_ok : Ok W (on S) (stage_at P (top sets))
   top_ok = rw (top_calm (on S)).0 at (ok_at W (on S) (top sets) P.stages (omega (arith, top_is, laid.high, a.sixteen)) good)
@@ -176,7 +174,7 @@ module _ (W : World) (sets : List ℕ) (laid : Laid sets) (S : State) (P : Pipes
       }
 
   -- the bottom stage and fetch change
-  rebottomed : (x : Stage) (fetch : FetchPoint) →
+  rebottomed : (x : Stage) (fetch : Option ℕ) →
       (Wide (upon 0) → Ok W (upon 0) (stage_at P 0) → Bottom (after W (upon 0) (stage_at P 0)) P.fetch → Ok W (upon 0) x × Bottom (after W (upon 0) x) fetch) →
       Agrees W sets S (with_fetch (with_stage P 0 x) fetch) words
   rebottomed x fetch h =
@@ -200,9 +198,9 @@ module _ (W : World) (sets : List ℕ) (laid : Laid sets) (S : State) (P : Pipes
       below : Good W (on S) (set P.stages 0 x) × (down W (on S) (set P.stages 0 x) ≡ after W (upon 0) x)
       below = bottom_set W (on S) P.stages x some good here.0
 
-  fetch_keeps : (fetch : FetchPoint) → P.fetch ≡ fetch → packet_at P 0 ≡ None → Agrees W sets S (fetched_from W words P fetch) words
-  fetch_keeps Closed f e = a
-  fetch_keeps (Open place) f e = rebottomed _ _ (λ w o b. fetch_ok W words (upon 0) (stage_at P 0) place w e o (rw f at b))
+  fetch_keeps : (fetch : Option ℕ) → P.fetch ≡ fetch → packet_at P 0 ≡ None → Agrees W sets S (fetched_from W words P fetch) words
+  fetch_keeps None f e = a
+  fetch_keeps (Some place) f e = rebottomed _ _ (λ w o b. fetch_ok W words (upon 0) (stage_at P 0) place w e o (rw f at b))
 
   drop_keeps : Agrees W sets S (with_fetch (with_stage P 0 (staged (packet_at P 0) None)) (fetch_on (result_in (stage_at P 0)) P.fetch)) words
   drop_keeps = rebottomed _ _ (λ w o b. drop_ok W (upon 0) (stage_at P 0) P.fetch o b)

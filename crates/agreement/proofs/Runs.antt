@@ -1,10 +1,11 @@
 -- Every move, every list of moves.
-use Rattle.std.proofs.Common.{◌≡◌, ℕ, zero, suc, ◌+◌, Bool, true, false, cond, List, [], ◌∷◌, ◌++◌, length, get_or, replicate, Some, None, Ok, Err, Option, Result, sym, refl, ap, subst, append-nil, suc-add, zero-add, arith, length-append}
+use Rattle.std.proofs.Common.{◌≡◌, ℕ, zero, suc, false, List, [], ◌∷◌, ◌++◌, length, get_or, replicate, Some, None, Ok, Err, Option, Result, sym, refl, subst, append-nil, arith, length-append}
 use Rattle.effect.specs.declared.actions.Retirement.{Retirement}
 use Rattle.moves.specs.declared.kinds.Move.{Move}
 use Rattle.moves.specs.declared.kinds.MoveKind.{MoveKind}
 use Rattle.moves.specs.Decoding.{kind_of, number_of}
-use Rattle.stepper.specs.Machine.{World, State, start, stepped, retired, execution, records}
+use Rattle.stepper.specs.Machine.{World, State, start, execution}
+use Rattle.stepper.proofs.Executions.{execution_more, records_more}
 use Rattle.packets.specs.Stages.{vacant}
 use Rattle.pipes.specs.declared.answers.MoveRefusal.{MoveRefusal}
 use Rattle.pipes.specs.declared.state.Pipes.{Pipes}
@@ -59,33 +60,6 @@ module _ (W : World) (sets : List ℕ) where
         by-refusal None e =
             let g : P.halted ≡ false = grind arith in
             by_question kind place g (kind_of kind) refl e
-
--- a halted machine stays as it is
-module _ (W : World) where
-  halted_stays : (n : ℕ) (S : State) → S.halted ≡ true → execution W n S ≡ S
-  halted_stays zero S h = refl
-  halted_stays (suc n) S h =
-      let e : stepped W S ≡ S = rw h in
-      rw e (halted_stays n S h)
-
-  halted_records : (n : ℕ) (S : State) → S.halted ≡ true → records W n S ≡ []
-  halted_records zero S h = refl
-  halted_records (suc n) S h = rw h
-
-  -- so many steps, and so many more
-  pub execution_more : (m n : ℕ) (S : State) → execution W (m + n) S ≡ execution W n (execution W m S)
-  execution_more zero n S = rw (zero-add n)
-  execution_more (suc m) n S = rw (suc-add m n) (execution_more m n (stepped W S))
-
-  pub records_more : (m n : ℕ) (S : State) → records W (m + n) S ≡ records W m S ++ records W n (execution W m S)
-  records_more zero n S = rw (zero-add n)
-  records_more (suc m) n S = rw (suc-add m n) (by-mark S.halted refl (records_more m n (stepped W S)))
-    where
-      by-mark : (b : Bool) → S.halted ≡ b → records W (m + n) (stepped W S) ≡ records W m (stepped W S) ++ records W n (execution W (suc m) S) →
-          cond b [] (retired W S ∷ records W (m + n) (stepped W S)) ≡
-          cond b [] (retired W S ∷ records W m (stepped W S)) ++ records W n (execution W (suc m) S)
-      by-mark false e r = ap (λ u. retired W S ∷ u) r
-      by-mark true e r = sym (halted_records n (execution W (suc m) S) (rw (halted_stays (suc m) S e) e))
 
 -- records that follow those so far
 module _ (W : World) (sets : List ℕ) where

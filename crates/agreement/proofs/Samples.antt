@@ -1,6 +1,5 @@
 -- Runs on numbers, by computation: instructions do retire, wrong guesses and traps are mended, a halt ends it.
-use Rattle.std.proofs.Common.{◌≡◌, ℕ, zero, suc, ◌+◌, ◌%◌, ◌^◌, ◌<◌, true, false, List, [], ◌∷◌, ◌++◌, length, get_or, replicate, sym, refl, ◌∙◌, arith, lit≤}
-use Rattle.unit.specs.declared.outcome.Outcome.TheVariants.{Word}
+use Rattle.std.proofs.Common.{◌≡◌, ℕ, zero, suc, ◌+◌, ◌%◌, ◌^◌, ◌<◌, true, false, List, [], ◌∷◌, ◌++◌, length, get_or, replicate, sym, refl, ◌∙◌, arith, lit≤, Ok}
 use Rattle.instruction.specs.Named.{register, unit_op}
 use Rattle.instruction.specs.declared.instructions.Instruction.{Instruction}
 use Rattle.instruction.specs.declared.instructions.Instruction.TheVariants.{Halt, Jump, Set, BranchZero, Load, Store, Compute}
@@ -18,7 +17,7 @@ use Rattle.agreement.specs.Statement.{Equal}
 use Rattle.agreement.proofs.Theorem.{agreement}
 
 abbrev adding : List Instruction → ℕ → World
-adding program handler = record { table = λ f a b. Word ((a + b) % 2 ^ 32); program = program; handler = handler }
+adding program handler = record { table = λ f a b. Ok ((a + b) % 2 ^ 32); program = program; handler = handler }
 
 -- two stages, the lower able for all but loads and stores
 abbrev two : List ℕ

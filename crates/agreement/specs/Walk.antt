@@ -1,9 +1,9 @@
 -- The walk from the top stage to the bottom: the state that the next live packet below must execute in.
-use Rattle.std.specs.Prelude.{◌≡◌, ℕ, ◌≤◌, Bool, true, false, cond, not, ◌&&◌, ◌||◌, List, [], ◌∷◌, length, Some, None, Option, slice_index}
+use Rattle.std.specs.Prelude.{◌≡◌, ℕ, ◌≤◌, Bool, true, false, cond, not, ◌&&◌, List, [], ◌∷◌, length, Some, None, Option, slice_index}
 use Rattle.effect.specs.declared.actions.Action.{Action}
 use Rattle.effect.specs.declared.actions.Effect.{Effect}
-use Rattle.effect.specs.Changes.{halts, registers_after, words_after}
-use Rattle.stepper.specs.Machine.{World, State, found_at, sources_of, effect_at}
+use Rattle.effect.specs.Changes.{halts}
+use Rattle.stepper.specs.Machine.{World, State, found_at, sources_of, effect_at, applied}
 use Rattle.packets.specs.declared.bindings.Source.{Source}
 use Rattle.packets.specs.declared.bindings.Source.TheVariants.{Absent, Literal, Bound}
 use Rattle.packets.specs.declared.packets.Packet.{Packet}
@@ -17,8 +17,6 @@ use Rattle.packets.specs.declared.stages.Stage.{Stage}
 use Rattle.packets.specs.Packets.{owed_by}
 use Rattle.packets.specs.Entering.{guess_of}
 use Rattle.packets.specs.Stages.{vacant, result_in}
-use Rattle.pipes.specs.declared.state.FetchPoint.{FetchPoint}
-use Rattle.pipes.specs.declared.state.FetchPoint.TheVariants.{Open}
 use Rattle.pipes.specs.declared.state.Pipes.{Pipes}
 use Rattle.pipes.specs.Moving.{fetched_at}
 use Rattle.pipes.specs.Questions.{stage_at}
@@ -44,18 +42,9 @@ abbrev pub flows : ℕ → Effect → PacketState → Bool
 flows guess effect Waiting = goes_on effect.action (owed_by guess effect.next effect.action)
 flows guess effect (Executed done owed) = goes_on done.action owed
 
--- the state after an effect, part by part
-abbrev pub state_after : Effect → State → State
-state_after effect S = record {
-  place = effect.next;
-  registers = registers_after effect.action S.registers;
-  words = words_after effect.action S.words;
-  halted = halts effect.action || S.halted;
-}
-
 -- the state behind the next instruction
 abbrev pub advanced : World → State → State
-advanced W S = state_after (effect_at W S) S
+advanced W S = applied (effect_at W S) S
 
 abbrev pub passing : World → Bool → State → View
 passing W true S = on (advanced W S)
@@ -136,9 +125,9 @@ module _ (W : World) where
   Good v (x ∷ xs) = Good v xs × Ok (down W v xs) x
 
 -- fetch stands where the view at the bottom does
-abbrev pub Bottom : View → FetchPoint → Type 0
+abbrev pub Bottom : View → Option ℕ → Type 0
 Bottom lost fetch = Unit {0}
-Bottom (on S) fetch = fetch ≡ Open S.place
+Bottom (on S) fetch = fetch ≡ Some S.place
 
 -- the pipes and words stand for a state of the sequential machine
 pub record Agrees (W : World) (sets : List ℕ) (S : State) (P : Pipes) (words : List ℕ) : Type 0 where

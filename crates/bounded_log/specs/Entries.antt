@@ -1,5 +1,5 @@
 -- The log as the list of its entries, in the places that it was lent.
-use Rattle.std.specs.Prelude.{ℕ, ◌+◌, cond, List, [], ◌∷◌, ◌++◌, length, take, drop, Ok, Err, Result, nat_lt, slice_set}
+use Rattle.std.specs.Prelude.{ℕ, ◌+◌, if◌then◌else◌, List, [], ◌∷◌, ◌++◌, length, take, drop, Ok, Err, Result, nat_lt, slice_set}
 use Rattle.std.specs.Option.{ok_or}
 use Rattle.std.specs.List.{slice_get}
 use Rattle.bounded_log.specs.declared.faults.LogFault.{LogFault}
@@ -16,17 +16,17 @@ module _ {T : Type 0} (places : List T) (count : ℕ) where
 
   -- what adding answers, and what it leaves: it sets the place at the count, and no other
   abbrev pub add_of : Result (Unit {0}) LogFault
-  add_of = cond (nat_lt count (length places)) (Ok tt) (Err Full)
+  add_of = if nat_lt count (length places) then Ok tt else Err Full
 
   abbrev pub added_to : T → List T
-  added_to x = cond (nat_lt count (length places)) (slice_set places count x) places
+  added_to x = if nat_lt count (length places) then slice_set places count x else places
 
   abbrev pub count_after : ℕ
-  count_after = cond (nat_lt count (length places)) (count + 1) count
+  count_after = if nat_lt count (length places) then count + 1 else count
 
   -- the entries after adding: one more at the end, or, where the log is full, the same
   abbrev pub grown : T → List T
-  grown x = cond (nat_lt count (length places)) (entries ++ (x ∷ [])) entries
+  grown x = if nat_lt count (length places) then entries ++ x ∷ [] else entries
 
 -- the entry of a number, from 0
 abbrev pub entry_of : {T : Type 0} → List T → ℕ → Result T LogFault

@@ -10,5 +10,4 @@ mod lines;
 mod places;
 mod questions;
 mod records;
-mod telling;
 mod writing;

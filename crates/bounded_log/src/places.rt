@@ -1,6 +1,7 @@
 ghost use Rattle.std.specs.Prelude.{◌≤◌, length};
 
 /// A bounded log. Its entries are the first `count` of the places that it was lent.
+// The caller lends the places, so the count stands beside them.
 #[derive(Drop)]
 pub struct Log<'a, T> {
     pub(crate) places: &'a mut [T],

@@ -1,5 +1,6 @@
 ghost use Rattle.std.specs.Prelude.{◌≡◌, []};
-ghost use Rattle.bounded_log.specs.Entries.{added_to, count_after, add_of, entries, grown};
+ghost use Rattle.bounded_log.specs.Entries.{added_to, count_after, add_of, grown};
+ghost use Rattle.bounded_log.specs.Room.{entries_in};
 
 use crate::faults::LogFault;
 use crate::places::Log;
@@ -19,9 +20,10 @@ impl<'a, T: Copy> Log<'a, T> {
         ensures value { result ≡ add_of self.old.places.now self.old.count }
         ensures places { self.new.places.now ≡ added_to self.old.places.now self.old.count added }
         ensures count { self.new.count ≡ count_after self.old.places.now self.old.count }
-        ensures entries { entries self.new.places.now self.new.count ≡ grown self.old.places.now self.old.count added }
+        ensures entries { entries_in self.new ≡ grown self.old.places.now self.old.count added }
         ensures root { self.new.places.ghost_name ≡ self.old.places.ghost_name }
     {
+        // A slice's `get_mut` says nothing of the other places, so this goes by the index.
         if self.count < self.places.len() {
             self.places[self.count] = added;
             self.count += 1;
@@ -34,7 +36,7 @@ impl<'a, T: Copy> Log<'a, T> {
     /// Forgets the entries: their places are free again.
     pub fn clear(&mut self)
         ensures count { self.new.count ≡ 0 }
-        ensures entries { entries self.new.places.now self.new.count ≡ [] }
+        ensures entries { entries_in self.new ≡ [] }
         ensures places { self.new.places ≡ self.old.places }
     {
         self.count = 0;

@@ -1,29 +1,20 @@
 //! `cfcheck`: checks the job on standard input, and prints whether it can be run.
 #![tactic(auto)]
 
-use checking::{JobFigures, check_job};
+use checking::check_job;
+use fields::Refusal;
 use std::io::Read;
 use unit::WholeNumber;
 
+// How much this program takes. Each program reads and prints its own; what they share is in the libraries.
 const MOST_BYTES: u64 = 65536;
 
 fn run(rt: &HostRuntime) -> anyhow::Result<()> {
     let mut bytes = Vec::new(rt.alloc());
     rt.stdin().take(MOST_BYTES).read_to_end(&mut bytes)?;
     match check_job::<WholeNumber>(&bytes) {
-        Ok(
-            JobFigures {
-                records,
-                stages,
-                moves,
-            },
-        ) => println!(rt; "OK {records} {stages} {moves}")?,
-        Err(fault) => {
-            let refusal = fault.refusal();
-            let number = refusal.number;
-            let place = refusal.place;
-            println!(rt; "NO {number} {place}")?;
-        }
+        Ok(figures) => println!(rt; "OK {figures}")?,
+        Err(fault) => println!(rt; "{}", Refusal::from(fault))?,
     }
     Ok(())
 }

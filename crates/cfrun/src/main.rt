@@ -1,60 +1,33 @@
 //! `cfrun`: runs the job on standard input, and prints each live retirement.
 #![tactic(auto)]
 
-use anyhow::anyhow;
-use bounded_log::{Log, WriteFault};
-use checking::JobFigures;
+use bounded_log::Log;
 use effect::{Action, Retirement};
-use pipes::RunFigures;
+use fields::Refusal;
 use running::{JobRun, run_job};
 use std::alloc::Global;
 use std::io::Read;
 use unit::WholeNumber;
 
+// How much this program takes. Each program reads and prints its own; what they share is in the libraries.
 const MOST_BYTES: u64 = 65536;
 
 const LOG_PLACES: usize = 2000;
 
 const WORDS: usize = 256;
 
-/// Prints each entry of the log: its number, from 1, and its line.
-fn print_records(
-    rt: &impl Print,
-    heap: Global,
-    log: &mut Log<'_, Retirement>,
-) -> anyhow::Result<()> {
-    for index in 0..log.count() {
-        let number = index.saturating_add(1);
-        let mut line = String::new(heap);
-        match log.write_entry(index, heap, &mut line) {
-            Ok(()) => println!(rt; "{number} {line}")?,
-            Err(WriteFault::Log(_)) => return Err(anyhow!("no such entry")),
-            Err(WriteFault::Memory(fault)) => return Err(fault.into()),
-        }
-    }
-    Ok(())
-}
-
+/// How large the job is, each record of the log with its number, and how the run went.
 fn print_run(
     rt: &impl Print,
     heap: Global,
     answer: JobRun,
     log: &mut Log<'_, Retirement>,
 ) -> anyhow::Result<()> {
-    let JobFigures {
-        records,
-        stages,
-        moves,
-    } = answer.job;
-    println!(rt; "CFP {records} {stages} {moves}")?;
-    print_records(rt, heap, log)?;
-    let RunFigures {
-        accepted,
-        turned_away,
-        live,
-    } = answer.run;
-    let halted = u8::from(answer.halted);
-    println!(rt; "END {live} {accepted} {turned_away} {halted}")?;
+    println!(rt; "CFP {}", answer.job)?;
+    let mut records = String::new(heap);
+    log.write_numbered(heap, &mut records)?;
+    print!(rt; "{records}")?;
+    println!(rt; "END {answer}")?;
     Ok(())
 }
 
@@ -70,12 +43,7 @@ fn run(rt: &HostRuntime) -> anyhow::Result<()> {
     let mut log = Log::new(&mut places);
     match run_job(&bytes, &WholeNumber, &mut words, &mut log) {
         Ok(answer) => print_run(rt, heap, answer, &mut log)?,
-        Err(fault) => {
-            let refusal = fault.refusal();
-            let number = refusal.number;
-            let place = refusal.place;
-            println!(rt; "NO {number} {place}")?;
-        }
+        Err(fault) => println!(rt; "{}", Refusal::from(fault))?,
     }
     Ok(())
 }

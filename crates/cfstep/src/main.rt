@@ -1,31 +1,33 @@
 //! `cfstep`: executes the image on standard input, one instruction at a time, and prints each step.
 #![tactic(auto)]
 
-use anyhow::anyhow;
-use bounded_log::{Log, WriteFault};
+use bounded_log::Log;
 use effect::{Action, Retirement};
 use execution::{Execution, execute};
+use fields::Refusal;
 use std::alloc::Global;
 use std::io::Read;
 use unit::WholeNumber;
 
+// How much this program takes. Each program reads and prints its own; what they share is in the libraries.
 const MOST_BYTES: u64 = 65536;
 
 const MOST_STEPS: usize = 2000;
 
 const WORDS: usize = 256;
 
-/// Prints each entry of the log: its number, from 1, and its line.
-fn print_steps(rt: &impl Print, heap: Global, log: &mut Log<'_, Retirement>) -> anyhow::Result<()> {
-    for index in 0..log.count() {
-        let number = index.saturating_add(1);
-        let mut line = String::new(heap);
-        match log.write_entry(index, heap, &mut line) {
-            Ok(()) => println!(rt; "{number} {line}")?,
-            Err(WriteFault::Log(_)) => return Err(anyhow!("no such entry")),
-            Err(WriteFault::Memory(fault)) => return Err(fault.into()),
-        }
-    }
+/// How large the image is, each step of the log with its number, and how the execution went.
+fn print_execution(
+    rt: &impl Print,
+    heap: Global,
+    answer: Execution,
+    log: &mut Log<'_, Retirement>,
+) -> anyhow::Result<()> {
+    println!(rt; "CFP {}", answer.records)?;
+    let mut lines = String::new(heap);
+    log.write_numbered(heap, &mut lines)?;
+    print!(rt; "{lines}")?;
+    println!(rt; "END {answer}")?;
     Ok(())
 }
 
@@ -40,24 +42,8 @@ fn run(rt: &HostRuntime) -> anyhow::Result<()> {
     }; MOST_STEPS]?;
     let mut log = Log::new(&mut places);
     match execute(&bytes, &WholeNumber, &mut words, &mut log) {
-        Ok(
-            Execution {
-                records,
-                steps,
-                halted,
-            },
-        ) => {
-            println!(rt; "CFP {records}")?;
-            print_steps(rt, heap, &mut log)?;
-            let halted = u8::from(halted);
-            println!(rt; "END {steps} {halted}")?;
-        }
-        Err(fault) => {
-            let refusal = fault.refusal();
-            let number = refusal.number;
-            let place = refusal.place;
-            println!(rt; "NO {number} {place}")?;
-        }
+        Ok(answer) => print_execution(rt, heap, answer, &mut log)?,
+        Err(fault) => println!(rt; "{}", Refusal::from(fault))?,
     }
     Ok(())
 }

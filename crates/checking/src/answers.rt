@@ -1,3 +1,6 @@
+ghost use Rattle.std.specs.Prelude.{◌≡◌};
+ghost use Rattle.checking.specs.declared.answers.CheckFault.TheVariants.{Job, Fit};
+
 use fit::FitFault;
 use job::JobFault;
 
@@ -14,4 +17,20 @@ pub struct JobFigures {
 pub enum CheckFault {
     Job(JobFault),
     Fit(FitFault),
+}
+
+impl From<JobFault> for CheckFault {
+    ghost from_gives = { λ fault check_fault. check_fault ≡ Job fault };
+
+    fn from(fault: JobFault) -> CheckFault {
+        CheckFault::Job(fault)
+    }
+}
+
+impl From<FitFault> for CheckFault {
+    ghost from_gives = { λ fault check_fault. check_fault ≡ Fit fault };
+
+    fn from(fault: FitFault) -> CheckFault {
+        CheckFault::Fit(fault)
+    }
 }

@@ -19,8 +19,6 @@ use Rattle.packets.specs.Packets.{is_live, ready, may_execute, may_insert, may_r
 use Rattle.packets.specs.Stages.{vacant, result_in, free}
 use Rattle.pipes.specs.declared.answers.MoveRefusal.{MoveRefusal}
 use Rattle.pipes.specs.declared.answers.MoveRefusal.TheVariants.{WrongPlace, NothingThere, WrongState}
-use Rattle.pipes.specs.declared.state.FetchPoint.{FetchPoint}
-use Rattle.pipes.specs.declared.state.FetchPoint.TheVariants.{Open, Closed}
 use Rattle.pipes.specs.declared.state.Pipes.{Pipes}
 use Rattle.pipes.specs.Questions.{stage_at, packet_at, slot_at, top, is_open, holds_of, able_for, some_able, may_rise, asks, ask_retire, asked}
 use Rattle.pipes.specs.Moving.{Left, silently, accepted, leaving_effect, retired_from, vacated}
@@ -90,9 +88,9 @@ module _ (W : World) (sets : List ℕ) (P : Pipes) (words : List ℕ) (low : 2 �
       stuck : (a b c : Bool) → a ≡ false → b ≡ false → (a || (b || c)) ≡ true → c ≡ true
       stuck a b c p q h = grind arith
 
-      by : (f : FetchPoint) → P.fetch ≡ f → Good W sets P words (move_to Fetch 0)
-      by Closed q = absurd (hopeless all (stuck P.halted (is_open P.fetch) (hope P.stages) halt (ap is_open q) sound.4))
-      by (Open place) q =
+      by : (f : Option ℕ) → P.fetch ≡ f → Good W sets P words (move_to Fetch 0)
+      by None q = absurd (hopeless all (stuck P.halted (is_open P.fetch) (hope P.stages) halt (ap is_open q) sound.4))
+      by (Some place) q =
           let f = fetch_falls sets P (omega arith) long W words place e in
           record {
             asks_well = agree _ _ _ (ap is_open q) (agree _ _ _ bottom refl);
@@ -172,7 +170,7 @@ module _ (W : World) (sets : List ℕ) (P : Pipes) (words : List ℕ) (low : 2 �
 
       ok : asked sets P Retire 0 ≡ None
       ok =
-          agree true WrongPlace (ask_retire P (top sets)) refl
+          agree true WrongPlace (ask_retire (stage_at P (top sets))) refl
           (agree (is_some (packet_at P (top sets))) NothingThere (asks (holds_of may_retire (packet_at P (top sets))) WrongState None) (ap is_some q)
           (agree (holds_of may_retire (packet_at P (top sets))) WrongState None (ap (holds_of may_retire) q ∙ m) refl))
 

@@ -16,8 +16,6 @@ use Rattle.packets.specs.Entering.{guess_of}
 use Rattle.packets.specs.Stages.{staged, vacant, result_in, free}
 use Rattle.pipes.specs.declared.answers.MoveRefusal.{MoveRefusal}
 use Rattle.pipes.specs.declared.answers.MoveRefusal.TheVariants.{WrongPlace, NothingThere, WrongState}
-use Rattle.pipes.specs.declared.state.FetchPoint.{FetchPoint}
-use Rattle.pipes.specs.declared.state.FetchPoint.TheVariants.{Open, Closed}
 use Rattle.pipes.specs.declared.state.Pipes.{Pipes}
 use Rattle.pipes.specs.Questions.{stage_at, packet_at, slot_at, top, is_open, holds_of, may_rise, asks, ask_retire, asked, refusal_of}
 use Rattle.pipes.specs.Moving.{fresh, with_stage, closes, fetched_at, entered, fetched_from, raised, lowered, executed, inserted, read_value, read_into, dropped, leaving_effect, vacated, writing_if, retired_from, accepted, accepted_by, moved_by, moved}
@@ -120,9 +118,9 @@ module _ (sets : List ℕ) (P : Pipes) (low : 2 ≤ length sets) (high : length 
       let z : (is_open P.fetch || hope P.stages) ≡ true = ap (λ (b : Bool). b || (is_open P.fetch || hope P.stages)) (sym h) ∙ sound.4 in
       (g.0, sound.1, g.1, g.2, or_right P.halted _ (drop-list P.stages P.fetch z))
 
-  fetch_sound : (W : World) (words : List ℕ) → All (placed sets) W.program → (f : FetchPoint) → Sound sets (fetched_from W words P f)
-  fetch_sound W words fit Closed = sound
-  fetch_sound W words fit (Open place) =
+  fetch_sound : (W : World) (words : List ℕ) → All (placed sets) W.program → (f : Option ℕ) → Sound sets (fetched_from W words P f)
+  fetch_sound W words fit None = sound
+  fetch_sound W words fit (Some place) =
       let f = fetched_at W place in
       let r = result_in (stage_at P 0) in
       let first : 0 < length P.stages = (let q = sound.0 in omega arith) in
@@ -131,7 +129,7 @@ module _ (sets : List ℕ) (P : Pipes) (low : 2 ≤ length sets) (high : length 
       (λ e. hope_at (entered W words P f).stages 0 (ap hopeful (get_or-set_same P.stages 0 _ vacant first) ∙ closed_hopes W.table words W.handler f r e)) in
       (g.0, sound.1, g.1, g.2, or_right P.halted _ z)
     where
-      closes-or : (c : Bool) (guess : ℕ) (h : Bool) → (c ≡ true → h ≡ true) → (is_open (cond c Closed (Open guess)) || h) ≡ true
+      closes-or : (c : Bool) (guess : ℕ) (h : Bool) → (c ≡ true → h ≡ true) → (is_open (cond c None (Some guess)) || h) ≡ true
       closes-or c guess h q = grind arith
 
 leaves_none : (p : Packet) → leaving_effect p ≡ None → promised (Some p) ≡ false
@@ -195,7 +193,7 @@ module _ (W : World) (sets : List ℕ) (P : Pipes) (words : List ℕ) (fit : All
   accepted_sound Read s h e = read_sound sets P low high sound s (yes _ _ _ (yes _ _ _ e).1).0
   accepted_sound Retire s h e =
       let o = packet_at P (top sets) in
-      let a = yes (eqb s 0) WrongPlace (ask_retire P (top sets)) e in
+      let a = yes (eqb s 0) WrongPlace (ask_retire (stage_at P (top sets))) e in
       let b = yes (is_some o) NothingThere (asks (holds_of may_retire o) WrongState None) a.1 in
       retire_sound sets P low high sound words o refl (yes (holds_of may_retire o) WrongState None b.1).0
   accepted_sound Drop s h e = drop_sound sets P low high sound h

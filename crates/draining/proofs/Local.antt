@@ -19,7 +19,6 @@ use Rattle.packets.specs.Entering.{at_once, guess_of, no_words, entering}
 use Rattle.packets.specs.Packets.{executed_as, is_executed, may_execute}
 use Rattle.packets.specs.Stages.{staged, vacant, result_in, free, met, executing, inserting}
 use Rattle.layout.specs.Able.{able_from}
-use Rattle.pipes.specs.declared.state.FetchPoint.{FetchPoint}
 use Rattle.pipes.specs.Questions.{is_open, holds_of, some_able}
 use Rattle.pipes.specs.Moving.{closes, fetch_on}
 use Rattle.draining.specs.Sound.{fits_in, controls, promises, promised, hopeful, hope}
@@ -61,11 +60,11 @@ module _ (table : Table) (words : List ℕ) (handler : ℕ) (x : Stage) where
   pub execute_fits : (sets : List ℕ) (s : ℕ) → fits_in sets s (executing table words handler x).packet ≡ true
   execute_fits sets s = grind arith
 
-pub drop_hopes : (x : Stage) (f : FetchPoint) (h : Bool) → (is_open f || (hopeful x || h)) ≡ true →
+pub drop_hopes : (x : Stage) (f : Option ℕ) (h : Bool) → (is_open f || (hopeful x || h)) ≡ true →
     (is_open (fetch_on (result_in x) f) || (hopeful (staged x.packet None) || h)) ≡ true
 drop_hopes x f h e = grind arith
 
-pub drop-list : (xs : List Stage) (f : FetchPoint) → (is_open f || hope xs) ≡ true →
+pub drop-list : (xs : List Stage) (f : Option ℕ) → (is_open f || hope xs) ≡ true →
     (is_open (fetch_on (result_in (get_or xs 0 vacant)) f) || hope (set xs 0 (staged (get_or xs 0 vacant).packet None))) ≡ true
 drop-list [] f e = e
 drop-list (x ∷ xs) f e = drop_hopes x f (hope xs) e

@@ -1,6 +1,6 @@
 -- Two stages driven by the policy, computed: an assignment, a halt, a place past the end, a wrong guess.
 use Rattle.std.proofs.Common.{◌≡◌, ℕ, zero, suc, false, List, [], ◌∷◌, refl}
-use Rattle.unit.specs.declared.outcome.Outcome.TheVariants.{Fault}
+use Rattle.unit.specs.Faults.{faulty}
 use Rattle.instruction.specs.declared.instructions.Instruction.{Instruction}
 use Rattle.instruction.specs.declared.instructions.Instruction.TheVariants as instruction
 use Rattle.instruction.specs.Named.{register}
@@ -17,7 +17,7 @@ abbrev sets : List ℕ
 sets = 12 ∷ 12 ∷ []
 
 abbrev world : List Instruction → World
-world program = record { table = λ f a b. Fault 0; program = program; handler = 9 }
+world program = record { table = λ f a b. faulty 0; program = program; handler = 9 }
 
 abbrev retired : ℕ → Action → Retirement
 retired place action = record { place = place; action = action }

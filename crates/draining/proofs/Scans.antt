@@ -1,12 +1,21 @@
 -- What the two scans of the stages find.
-use Rattle.std.proofs.Common.{◌≡◌, ℕ, zero, suc, ◌+◌, ◌-◌, ◌<◌, ◌≤◌, Bool, true, false, cond, List, get_or, is_some, Some, None, Option, sym, refl, ap, ◌∙◌, subst, ⊎_elim, suc-add, zero-add, add-one, arith}
-use Rattle.std.proofs.lemmas.Bool.{cases_eq}
+use Rattle.std.proofs.Common.{◌≡◌, ℕ, zero, suc, ◌<◌, ◌≤◌, Bool, true, false, cond, not, List, length, get_or, is_some, take, MatchOption, Some, None, Option, sym, refl, ap, ◌∙◌, subst, ⊎_elim, arith, length-take}
+use Rattle.std.proofs.lemmas.Bool.{cases_eq, cases_lt}
+use Rattle.std.proofs.lemmas.Bool.Decides.{nat_tests}
+use Rattle.std.proofs.lemmas.List.{get_or-take, get_or_past}
+use Rattle.std.proofs.lemmas.List.Sums.{prefix_len_passes}
+use Rattle.std.proofs.lemmas.List.Quantifiers.{position-Some}
+use Rattle.std.specs.List.{position_or_len}
 use Rattle.packets.specs.declared.stages.Stage.{Stage}
 use Rattle.packets.specs.Stages.{vacant, result_in}
-use Rattle.draining.specs.Policy.{or_here, lowest, highest}
+use Rattle.draining.specs.Policy.{lowest, highest}
 
 absent : {A : Type 0} (o : Option A) → is_some o ≡ false → o ≡ None
 absent o e = grind arith
+
+negated : (b : Bool) → not b ≡ true → b ≡ false
+negated false e = refl
+negated true e = absurd (let z : ◌≡◌ {A = ℕ} 0 1 = cc in omega arith)
 
 -- one stage more that passes
 grown : (P : ℕ → Type 0) (m : ℕ) → ((i : ℕ) → i < m → P i) → P m → (i : ℕ) → i < suc m → P i
@@ -18,28 +27,30 @@ module _ (xs : List Stage) where
   Dry m = (i : ℕ) → i < m → result_in (get_or xs i vacant) ≡ None
 
   pub lowest_none : (m : ℕ) → lowest xs m ≡ None → Dry m
-  lowest_none zero e = λ i l. absurd (omega arith)
-  lowest_none (suc m) e =
-      let a = both (lowest xs m) (is_some (result_in (get_or xs m vacant))) e in
-      grown (λ i. result_in (get_or xs i vacant) ≡ None) m (lowest_none m a.0) (absent _ a.1)
+  lowest_none m e i l = ⊎_elim within past (cases_lt i (length (take m xs)))
     where
-      both : (o : Option ℕ) (b : Bool) → or_here o b m ≡ None → (o ≡ None) × (b ≡ false)
-      both o b e = (grind arith, grind arith)
+      within : i < length (take m xs) → result_in (get_or xs i vacant) ≡ None
+      within q =
+          let held : Stage → Bool = λ x. is_some (result_in x) in
+          let before : i < position_or_len (λ x. is_some (result_in x)) (take m xs) = grind (arith, nat_tests) in
+          let passes = prefix_len_passes (λ x. not (held x)) (take m xs) i vacant before in
+          absent _ (sym (ap held (get_or-take m xs i vacant l)) ∙ negated _ passes)
+
+      past : length (take m xs) ≤ i → result_in (get_or xs i vacant) ≡ None
+      past q = let z : length xs ≤ i = grind (arith, length-take m xs) in ap result_in (get_or_past xs i vacant z)
 
   -- the lowest result: it is there, and none below it
   abbrev pub Lowest : ℕ → ℕ → Type 0
   Lowest m k = (k < m) × (is_some (result_in (get_or xs k vacant)) ≡ true) × Dry k
 
   pub lowest_some : (m k : ℕ) → lowest xs m ≡ Some k → Lowest m k
-  lowest_some zero k e = absurd (let z : ◌≡◌ {A = ℕ} 0 1 = cc in omega arith)
-  lowest_some (suc m) k e = by (lowest xs m) refl (is_some (result_in (get_or xs m vacant))) refl e (lowest_some m k)
-    where
-      by : (o : Option ℕ) → lowest xs m ≡ o → (b : Bool) → is_some (result_in (get_or xs m vacant)) ≡ b → or_here o b m ≡ Some k → (lowest xs m ≡ Some k → Lowest m k) → Lowest (suc m) k
-      by (Some j) q b r e f = let z : j ≡ k = cc in let a = f (q ∙ ap Some z) in (omega arith, a.1, a.2)
-      by None q true r e f =
-          let z : m ≡ k = cc in
-          (omega arith, ap (λ (j : ℕ). is_some (result_in (get_or xs j vacant))) (sym z) ∙ r, subst Dry z (lowest_none m q))
-      by None q false r e f = absurd (let z : ◌≡◌ {A = ℕ} 0 1 = cc in omega arith)
+  lowest_some m k e =
+      let held : Stage → Bool = λ x. is_some (result_in x) in
+      let found = position-Some (λ x. is_some (result_in x)) (take m xs) k vacant e in
+      let under = found.0 in
+      let none = found.2 in
+      let inside : k < m = grind (arith, length-take m xs) in
+      (inside, sym (ap held (get_or-take m xs k vacant inside)) ∙ found.1, λ i l. absent _ (sym (ap held (get_or-take m xs i vacant (omega arith))) ∙ none i l))
 
   -- no packet from one stage up to another
   abbrev pub Bare : ℕ → ℕ → Type 0
@@ -67,23 +78,36 @@ module _ (xs : List Stage) where
           let above = a.2 in
           (omega arith, a.1, λ i g l. ⊎_elim (λ z. subst (λ j. (get_or xs j vacant).packet ≡ None) (sym z) (absent _ r)) (λ ne. above i g (omega arith)) (cases_eq i m))
 
-  -- one turn of each scan: upward for the lowest, downward for the highest
-  lowest_stays : (k d : ℕ) → lowest xs (suc k) ≡ Some k → lowest xs (d + suc k) ≡ Some k
-  lowest_stays k zero e = ap (lowest xs) (zero-add (suc k)) ∙ e
-  lowest_stays k (suc d) e = ap (lowest xs) (suc-add d (suc k)) ∙ rw (lowest_stays k d e)
+  -- where the property holds of an answer, it is the highest
+  pub highest_absent : (m : ℕ) → ((k : ℕ) → k < m → is_some (get_or xs k vacant).packet ≡ false) → highest xs m ≡ None
+  highest_absent zero h = refl
+  highest_absent (suc m) h = rw (h m (omega arith)) (highest_absent m (λ k l. h k (omega arith)))
 
-  pub lowest_here : (m k : ℕ) → lowest xs k ≡ None → k < m → true ≡ is_some (result_in (get_or xs k vacant)) → Some k ≡ lowest xs m
-  lowest_here m k e l q =
-      let f = sym q in
-      let a : lowest xs (suc k) ≡ Some k = rw (e, f) in
-      let z : m ≡ (m - suc k) + suc k = omega arith in
-      sym (ap (lowest xs) z ∙ lowest_stays k (m - suc k) a)
+  pub highest_present : (m h : ℕ) → h < m → is_some (get_or xs h vacant).packet ≡ true → ((k : ℕ) → h < k → k < m → is_some (get_or xs k vacant).packet ≡ false) → highest xs m ≡ Some h
+  highest_present zero h l e above = absurd (omega arith)
+  highest_present (suc m) h l e above =
+      ⊎_elim
+      (λ z. let here : is_some (get_or xs m vacant).packet ≡ true = ap (λ (j : ℕ). is_some (get_or xs j vacant).packet) (sym z) ∙ e in rw here (ap Some (sym z)))
+      (λ ne. rw (above m (omega arith) (omega arith)) (highest_present m h (omega arith) e (λ k a b. above k a (omega arith))))
+      (cases_eq h m)
 
-  pub lowest_on : (k : ℕ) → lowest xs k ≡ None → false ≡ is_some (result_in (get_or xs k vacant)) → lowest xs (k + 1) ≡ None
-  lowest_on k e q = let f = sym q in rw add-one (rw (e, f))
+  -- a stage that is not among the first ones holds no packet
+  here : (m k : ℕ) → (k < length (take m xs) → is_some (get_or (take m xs) k vacant).packet ≡ false) → k < m → is_some (get_or xs k vacant).packet ≡ false
+  here m k f l =
+      ⊎_elim
+      (λ q. sym (ap (λ (x : Stage). is_some x.packet) (get_or-take m xs k vacant l)) ∙ f q)
+      (λ q. let z : length xs ≤ k = grind (arith, length-take m xs) in ap (λ (x : Stage). is_some x.packet) (get_or_past xs k vacant z))
+      (cases_lt k (length (take m xs)))
 
-  pub highest_here : (m s : ℕ) → highest xs s ≡ highest xs m → 0 < s → true ≡ is_some (get_or xs (s - 1) vacant).packet → Some (s - 1) ≡ highest xs m
-  highest_here m s e l q = let z : s ≡ suc (s - 1) = omega arith in let f = sym q in sym (sym e ∙ ap (highest xs) z ∙ rw f)
-
-  pub highest_on : (m s : ℕ) → highest xs s ≡ highest xs m → 0 < s → false ≡ is_some (get_or xs (s - 1) vacant).packet → highest xs (s - 1) ≡ highest xs m
-  highest_on m s e l q = let z : s ≡ suc (s - 1) = omega arith in let f = sym q in let a : highest xs (suc (s - 1)) ≡ highest xs (s - 1) = rw f in sym a ∙ sym (ap (highest xs) z) ∙ e
+  -- what a scan from the top finds among the first stages
+  pub highest_taken : (m : ℕ) (o : Option ℕ) →
+      MatchOption o ((k : ℕ) → k < length (take m xs) → is_some (get_or (take m xs) k vacant).packet ≡ false)
+      (λ h. (h < length (take m xs)) × ((is_some (get_or (take m xs) h vacant).packet ≡ true) × ((k : ℕ) → h < k → k < length (take m xs) → is_some (get_or (take m xs) k vacant).packet ≡ false))) →
+      o ≡ highest xs m
+  highest_taken m None f = sym (highest_absent m (λ k l. here m k (f k) l))
+  highest_taken m (Some h) f =
+      let under = f.0 in
+      let there = f.1.0 in
+      let none = f.1.1 in
+      let inside : h < m = grind (arith, length-take m xs) in
+      sym (highest_present m h inside (sym (ap (λ (x : Stage). is_some x.packet) (get_or-take m xs h vacant inside)) ∙ there) (λ k a l. here m k (none k a) l))

@@ -1,5 +1,5 @@
 -- What a drain has yet to do: a number that falls with every move that it makes.
-use Rattle.std.specs.Prelude.{ℕ, zero, suc, ◌+◌, ◌-◌, ◌*◌, Bool, false, cond, not, ◌&&◌, ◌||◌, List, [], ◌∷◌, length, get_or, is_some, Some, None, Option, slice_index_or}
+use Rattle.std.specs.Prelude.{ℕ, zero, suc, ◌+◌, ◌-◌, ◌*◌, Bool, false, cond, not, ◌&&◌, ◌||◌, List, [], ◌∷◌, length, is_some, Some, None, Option, slice_index_or}
 use Rattle.instruction.specs.declared.numbers.Register.{Register}
 use Rattle.packets.specs.declared.bindings.Source.{Source}
 use Rattle.packets.specs.declared.bindings.Source.TheVariants.{Absent, Literal, Bound}
@@ -64,7 +64,7 @@ seen n (Some p) r below above = work n above p
 
 abbrev pub task : ℕ → List Stage → ℕ → List PipeResult → ℕ
 task n xs zero above = most n
-task n xs (suc s) above = seen n (get_or xs s vacant).packet (result_in (slice_index_or xs s vacant)) (task n xs s) above
+task n xs (suc s) above = seen n (slice_index_or xs s vacant).packet (result_in (slice_index_or xs s vacant)) (task n xs s) above
 
 abbrev pub μ : List ℕ → Pipes → ℕ
 μ sets P = weights (length sets) P.stages (length sets) + task (length sets) P.stages (length sets) []

@@ -1,5 +1,5 @@
 -- Which move a drain makes next.
-use Rattle.std.specs.Prelude.{ℕ, zero, suc, ◌+◌, Bool, cond, List, length, get_or, is_some, Some, None, Option, ◌==◌, slice_index_or}
+use Rattle.std.specs.Prelude.{ℕ, zero, suc, ◌+◌, Bool, cond, List, length, take, position, is_some, Some, None, Option, ◌==◌, slice_index_or}
 use Rattle.moves.specs.declared.kinds.Move.{Move}
 use Rattle.moves.specs.declared.kinds.MoveKind.{MoveKind}
 use Rattle.moves.specs.declared.kinds.MoveKind.TheVariants.{Fetch, Raise, Lower, Execute, Insert, Read, Retire, Drop}
@@ -19,18 +19,13 @@ abbrev pub move_to : MoveKind → ℕ → Move
 move_to kind place = record { kind = kind; place = place }
 
 -- among the first stages, the lowest with a result
-abbrev pub or_here : Option ℕ → Bool → ℕ → Option ℕ
-or_here (Some k) here s = Some k
-or_here None here s = cond here (Some s) None
-
 abbrev pub lowest : List Stage → ℕ → Option ℕ
-lowest xs zero = None
-lowest xs (suc s) = or_here (lowest xs s) (is_some (result_in (slice_index_or xs s vacant))) s
+lowest xs n = position (λ x. is_some (result_in x)) (take n xs)
 
 -- among the first stages, the highest with a packet
 abbrev pub highest : List Stage → ℕ → Option ℕ
 highest xs zero = None
-highest xs (suc s) = cond (is_some (get_or xs s vacant).packet) (Some s) (highest xs s)
+highest xs (suc s) = cond (is_some (slice_index_or xs s vacant).packet) (Some s) (highest xs s)
 
 -- the register whose word a source still misses
 abbrev pub awaits : Source → Option ℕ

@@ -1,4 +1,4 @@
-ghost use Rattle.std.specs.Prelude.{◌≡◌, ◌<◌, length};
+ghost use Rattle.std.specs.Prelude.{◌≡◌, length};
 ghost use Rattle.layout.specs.Meaning.{sets_in};
 ghost use Rattle.moves.specs.declared.kinds.MoveKind.TheVariants.{Fetch};
 ghost use Rattle.draining.specs.Policy.{move_to, highest, upward, downward, chosen};
@@ -10,21 +10,15 @@ use moves::{Move, MoveKind};
 use pipes::Pipes;
 
 /// The result of a stage goes down, and out at the bottom.
-fn downward(stage: usize) -> Move
-    requires { stage < 16 }
+fn downward(stage: u8) -> Move
     ensures { result ≡ downward stage }
 {
-    if stage == 0 {
-        Move {
-            kind: MoveKind::Drop,
-            place: 0,
-        }
+    let kind = if stage == 0 {
+        MoveKind::Drop
     } else {
-        Move {
-            kind: MoveKind::Lower,
-            place: stage as u8,
-        }
-    }
+        MoveKind::Lower
+    };
+    Move { kind, place: stage }
 }
 
 fn fetch() -> Move
@@ -38,24 +32,24 @@ fn fetch() -> Move
 
 /// What the highest packet wants; without a packet, a fetch.
 fn upward(pipes: &Pipes, layout: &Layout<'_>) -> Move
-    ensures { result ≡ upward (sets_in layout.now.parts) pipes.now (highest pipes.now.stages (length (sets_in layout.now.parts))) }
+    ensures { result ≡ upward (sets_in layout.now) pipes.now (highest pipes.now.stages (length (sets_in layout.now))) }
 {
-    let Some(stage) = highest(pipes, layout.stages()) else {
+    let Some(stage) = highest(pipes, layout) else {
         return fetch();
     };
     let here = &pipes.stages[stage];
     let Some(packet) = &here.packet else {
         return fetch();
     };
-    wants(packet, layout, stage)
+    wants(packet, layout, stage as u8)
 }
 
 /// The move that a drain makes next: results first, the lowest first; then the highest packet.
 pub fn choose(pipes: &Pipes, layout: &Layout<'_>) -> Move
-    ensures { result ≡ chosen (sets_in layout.now.parts) pipes.now }
+    ensures { result ≡ chosen (sets_in layout.now) pipes.now }
 {
-    match lowest(pipes, layout.stages()) {
-        Some(stage) => downward(stage),
+    match lowest(pipes, layout) {
+        Some(stage) => downward(stage as u8),
         None => upward(pipes, layout),
     }
 }

@@ -1,9 +1,8 @@
 -- What an instruction does, row by row.
-use Rattle.std.specs.Prelude.{ℕ, ◌+◌, ◌*◌, ◌%◌, ◌^◌, cond, List, length, Some, None, Ok, Err, Option, Result, ◌==◌, nat_lt}
+use Rattle.std.specs.Prelude.{ℕ, ◌+◌, ◌*◌, ◌%◌, ◌^◌, List, length, Some, None, Ok, Err, Option, Result, ◌==◌, nat_lt, if◌then◌else◌}
 use Rattle.memory.specs.declared.access.AccessFault.{AccessFault}
 use Rattle.memory.specs.Words.{read_of}
-use Rattle.unit.specs.declared.outcome.Outcome.{Outcome}
-use Rattle.unit.specs.declared.outcome.Outcome.TheVariants.{Word, Fault}
+use Rattle.unit.specs.declared.outcome.Fault.{Fault}
 use Rattle.instruction.specs.declared.numbers.Register.{Register}
 use Rattle.instruction.specs.declared.numbers.UnitOp.{UnitOp}
 use Rattle.instruction.specs.declared.instructions.Instruction.{Instruction}
@@ -16,7 +15,7 @@ use Rattle.effect.specs.declared.actions.Sources.{Sources}
 
 -- a unit's table: an outcome for an operation and two words
 abbrev pub Table : Type 0
-Table = ℕ → ℕ → ℕ → Outcome
+Table = ℕ → ℕ → ℕ → Result ℕ Fault
 
 -- the place after a place, which no place below the count of an image ever wraps
 abbrev pub following : ℕ → ℕ
@@ -41,15 +40,16 @@ abbrev pub loaded : List ℕ → ℕ → ℕ → Register → ℕ → Effect
 loaded words handler place destination address = loaded_by (read_of words address) handler place destination
 
 abbrev pub stored : List ℕ → ℕ → ℕ → ℕ → ℕ → Effect
-stored words handler place address word = cond (nat_lt address (length words)) (does (StoreWord address word) (following place)) (trapped 2 place handler)
+stored words handler place address word =
+    if nat_lt address (length words) then does (StoreWord address word) (following place) else trapped 2 place handler
 
 -- cause 16 + f: the unit's fault f
-abbrev pub computed : ℕ → ℕ → Register → Outcome → Effect
-computed handler place destination (Word word) = does (SetRegister destination word) (following place)
-computed handler place destination (Fault fault) = trapped (16 + fault) place handler
+abbrev pub computed : ℕ → ℕ → Register → Result ℕ Fault → Effect
+computed handler place destination (Ok word) = does (SetRegister destination word) (following place)
+computed handler place destination (Err fault) = trapped (16 + fault.number) place handler
 
 -- The table is asked at words only: an effect means the same for tables that are equal there.
-abbrev pub asked : Table → UnitOp → Sources → Outcome
+abbrev pub asked : Table → UnitOp → Sources → Result ℕ Fault
 asked table operation sources = table operation.number (sources.first % 2 ^ 32) (sources.second % 2 ^ 32)
 
 module _ (table : Table) (words : List ℕ) (handler place : ℕ) (sources : Sources) where
@@ -59,7 +59,7 @@ module _ (table : Table) (words : List ℕ) (handler place : ℕ) (sources : Sou
   effect_by (Some instruction.Halt) = does Halt (following place)
   effect_by (Some (instruction.Jump target)) = does Nothing target
   effect_by (Some (instruction.Set destination word)) = does (SetRegister destination word) (following place)
-  effect_by (Some (instruction.BranchZero hint tested target)) = does Nothing (cond (sources.first == 0) target (following place))
+  effect_by (Some (instruction.BranchZero hint tested target)) = does Nothing (if sources.first == 0 then target else following place)
   effect_by (Some (instruction.JumpRegister target guess)) = does Nothing sources.first
   effect_by (Some (instruction.Load destination base offset)) = loaded words handler place destination (address_of sources.first offset)
   effect_by (Some (instruction.Store base source offset)) = stored words handler place (address_of sources.first offset) sources.second

@@ -9,13 +9,7 @@ impl Action {
     pub fn halts(self) -> bool
         ensures { result ≡ halts self }
     {
-        match self {
-            Action::Nothing => false,
-            Action::SetRegister { .. } => false,
-            Action::StoreWord { .. } => false,
-            Action::Trap { .. } => false,
-            Action::Halt => true,
-        }
+        matches!(self, Action::Halt)
     }
 
     /// Makes the change, in the registers or in the memory. A word whose address is outside is not
@@ -23,17 +17,15 @@ impl Action {
     pub fn apply<M: Memory>(self, registers: &mut [u32; 16], memory: &mut M)
         ensures registers { registers.new ≡ registers_after self registers.old }
         ensures words { M.Readable.words memory.new ≡ words_after self (M.Readable.words memory.old) }
-        ensures rooted { M.Memory.roots memory.new ≡ M.Memory.roots memory.old }
-        ensures beyond { M.Memory.beyond memory.new ≡ M.Memory.beyond memory.old }
+        ensures kept { M.Memory.kept memory.new ≡ M.Memory.kept memory.old }
     {
         match self {
-            Action::Nothing => {}
+            Action::Nothing | Action::Halt => {}
             Action::SetRegister { register, word } => registers[register.index()] = word,
             Action::StoreWord { address, word } => {
                 let _ = memory.write(address, word);
             }
             Action::Trap { word } => registers[15] = word,
-            Action::Halt => {}
         }
     }
 }

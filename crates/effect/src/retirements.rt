@@ -1,15 +1,18 @@
-ghost use Rattle.std.specs.Prelude.{◌≡◌};
+ghost use Rattle.std.specs.Prelude.{◌≡◌, Some, refl};
+ghost use Rattle.bounded_log.specs.Lines.{line_of};
 ghost use Rattle.effect.specs.Retirements.{kind_of, target_of, word_of, numbers_of};
 
 use crate::actions::{Action, Retirement};
 use bounded_log::Line;
-use std::alloc::{AllocError, Global};
+use std::fmt;
 
+// Each number of a record is a question of its own, so each has its match.
 impl Retirement {
     /// 0 for nothing, 1 for a register, 2 for memory, 3 for a trap, 4 for the halt.
     pub fn kind(self) -> u8
         ensures { result ≡ kind_of self.action }
     {
+        // A case with fields carries no number of its own, so the numbers stand here.
         match self.action {
             Action::Nothing => 0,
             Action::SetRegister { .. } => 1,
@@ -24,11 +27,10 @@ impl Retirement {
         ensures { result ≡ target_of self.action }
     {
         match self.action {
-            Action::Nothing => 0,
+            Action::Nothing | Action::Halt => 0,
             Action::SetRegister { register, .. } => u32::from(register.number()),
             Action::StoreWord { address, .. } => address,
             Action::Trap { .. } => 15,
-            Action::Halt => 0,
         }
     }
 
@@ -37,23 +39,28 @@ impl Retirement {
         ensures { result ≡ word_of self.action }
     {
         match self.action {
-            Action::Nothing => 0,
-            Action::SetRegister { word, .. } => word,
-            Action::StoreWord { word, .. } => word,
-            Action::Trap { word } => word,
-            Action::Halt => 0,
+            Action::Nothing | Action::Halt => 0,
+            Action::SetRegister { word, .. }
+            | Action::StoreWord { word, .. }
+            | Action::Trap { word } => word,
         }
+    }
+}
+
+impl fmt::Display for Retirement {
+    ghost output = { λ r. Some (line_of (numbers_of r)) };
+
+    fn fmt<W: fmt::Write>(&self, f: &mut fmt::Formatter<W>) -> fmt::Result {
+        let place = self.place;
+        let kind = self.kind();
+        let target = self.target();
+        let word = self.word();
+        write!(f, "{place} {kind} {target} {word}")
     }
 }
 
 impl Line for Retirement {
     ghost numbers = { numbers_of };
 
-    fn line(&self, heap: Global) -> Result<String, AllocError> {
-        let place = self.place;
-        let kind = self.kind();
-        let target = self.target();
-        let word = self.word();
-        format!(in heap; "{place} {kind} {target} {word}")
-    }
+    ghost written = { λ _. refl };
 }

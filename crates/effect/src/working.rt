@@ -9,6 +9,7 @@ use memory::Readable;
 use unit::{Outcome, Unit};
 
 /// A trap: the cause and the place as one word for r15, and on to the handler.
+// A cause is the number that the word tells; a unit's fault is 16 more than its own number.
 fn trap(cause: u32, place: u32, handler: u32) -> Effect
     requires { cause < 32 }
     ensures { result ≡ trapped cause place handler }
@@ -31,6 +32,7 @@ fn jump(next: u32) -> Effect
     }
 }
 
+// The handler goes beside what was fetched: it is the image's, and no part of a fetched instruction.
 impl Fetched {
     /// The place after this one.
     fn following(self) -> u32
@@ -73,8 +75,8 @@ impl Fetched {
         ensures { result ≡ computed handler self.place register outcome }
     {
         match outcome {
-            Outcome::Word(word) => self.go_on(Action::SetRegister { register, word }),
-            Outcome::Fault(fault) => trap(16 + u32::from(fault), self.place, handler),
+            Ok(word) => self.go_on(Action::SetRegister { register, word }),
+            Err(fault) => trap(16 + u32::from(fault.number), self.place, handler),
         }
     }
 

@@ -2,9 +2,10 @@
 use Rattle.std.specs.Prelude.{ℕ, ◌+◌, ◌-◌, List, ◌++◌, length, take, drop, Ok, Err, Result}
 use Rattle.image.specs.declared.faults.ImageFault.{ImageFault}
 use Rattle.image.specs.Reading.{Contents, image_of}
+use Rattle.bounded_log.specs.Entries.{logged}
 use Rattle.effect.specs.declared.actions.Retirement.{Retirement}
 use Rattle.effect.specs.Effects.{Table}
-use Rattle.stepper.specs.Machine.{World, State, start, execution, records, logged}
+use Rattle.stepper.specs.Machine.{World, State, start, execution, records}
 use Rattle.execution.specs.declared.answers.Execution.{Execution}
 
 -- the answer, the words that were lent, and the log: its places and its count

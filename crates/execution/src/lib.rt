@@ -8,7 +8,7 @@ ghost use Rattle.execution.specs.Executed.{executed};
 pub use answers::Execution;
 use bounded_log::Log;
 use effect::Retirement;
-use image::{Image, ImageFault, read_image};
+use image::{ImageFault, read_image};
 use memory::LentWords;
 use stepper::Stepper;
 use unit::Unit;
@@ -16,8 +16,9 @@ use unit::Unit;
 mod answers;
 
 /// Runs a stepper over lent words: the first 65,536 of them are its memory, and the others stay.
-fn run_over<'a, U: Unit>(
-    stepper: &mut Stepper<'a>,
+// A function of its own, so that what the words hold when the loan ends has a name.
+fn run_over<U: Unit>(
+    stepper: &mut Stepper<'_>,
     unit: &U,
     words: &mut [u32],
     log: &mut Log<'_, Retirement>,
@@ -37,14 +38,10 @@ pub fn execute<U: Unit>(
     words: &mut [u32],
     log: &mut Log<'_, Retirement>,
 ) -> Result<Execution, ImageFault>
-    ensures answer { result ≡ (executed (U.Unit.table unit.now) bytes.now words.old log.old.places.now log.old.count).answer }
-    ensures words { words.new ≡ (executed (U.Unit.table unit.now) bytes.now words.old log.old.places.now log.old.count).words }
-    ensures places { log.new.places.now ≡ (executed (U.Unit.table unit.now) bytes.now words.old log.old.places.now log.old.count).places }
-    ensures count { log.new.count ≡ (executed (U.Unit.table unit.now) bytes.now words.old log.old.places.now log.old.count).count }
+    ensures executed { record { answer = result; words = words.new; places = log.new.places.now; count = log.new.count } ≡ executed (U.Unit.table unit.now) bytes.now words.old log.old.places.now log.old.count }
     ensures root { log.new.places.ghost_name ≡ log.old.places.ghost_name }
 {
-    let (parts, _) = read_image(bytes)?;
-    let image = Image { parts };
+    let (image, _) = read_image(bytes)?;
     let mut stepper = Stepper::new(image);
     let steps = run_over(&mut stepper, unit, words, log);
     Ok(Execution {

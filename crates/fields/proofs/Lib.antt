@@ -1,2 +1,4 @@
 pub mod Scans
 pub mod Cuts
+pub mod Lefts
+pub mod Bits

@@ -1,9 +1,11 @@
 -- A loop over entries in a row: the fault of this one, or those that are left; and what no fault tells.
-use Rattle.std.proofs.Common.{◌≡◌, ℕ, zero, suc, ◌+◌, ◌-◌, ◌*◌, ◌<◌, ◌≤◌, true, not, List, length, get_or, drop, is_some, Some, None, Option, sym, refl, ap, ◌∙◌, add-one, arith}
+use Rattle.std.proofs.Common.{◌≡◌, ℕ, zero, suc, ◌+◌, ◌-◌, ◌*◌, ◌<◌, ◌≤◌, true, not, List, length, get_or, drop, is_some, is_ok, Some, None, Ok, Err, Option, Result, MatchResult, IsErrAnd, sym, refl, ap, ◌∙◌, add-one, arith, length-drop}
 use Rattle.std.specs.List.{slice_get}
 use Rattle.std.proofs.lemmas.List.{drop-drop}
 use Rattle.std.proofs.lemmas.Option.{slice_get_past}
-use Rattle.fields.specs.Scanning.{or_else, first_in, entries_of}
+use Rattle.std.proofs.lemmas.Bool.Decides.{nat_tests}
+use Rattle.std.specs.Option.{option_map}
+use Rattle.fields.specs.Scanning.{or_else, first_in, numbered, first_whole, verdict, entries_of}
 
 module _ {F : Type 0} where
   or_none : (a b : Option F) → or_else a b ≡ None → (a ≡ None) × (b ≡ None)
@@ -76,3 +78,54 @@ module _ {A : Type 0} (entry : List ℕ → A) (width : ℕ) where
   get_or-entries zero p bs d l = absurd (omega arith)
   get_or-entries (suc n) zero bs d l = sym (at_first bs)
   get_or-entries (suc n) (suc p) bs d l = get_or-entries n p (drop width bs) d (omega arith) ∙ sym (onward p bs)
+
+-- a loop over the entries that the bytes hold whole
+module _ {F : Type 0} (fault : ℕ → List ℕ → Option F) (width : ℕ) where
+  pub whole_short : (n k : ℕ) (bs : List ℕ) → length bs < width → first_whole fault width n k bs ≡ None
+  whole_short zero k bs s = refl
+  whole_short (suc n) k bs s = grind (arith, nat_tests)
+
+  pub whole_now : (n k : ℕ) (bs : List ℕ) (f : F) → 0 < n → width ≤ length bs → fault k bs ≡ Some f → first_whole fault width n k bs ≡ Some (k, f)
+  whole_now zero k bs f l w e = absurd (omega arith)
+  whole_now (suc n) k bs f l w e = rw e (grind (arith, nat_tests))
+
+  pub whole_later : (n k : ℕ) (bs : List ℕ) → 0 < n → width ≤ length bs → fault k bs ≡ None → first_whole fault width (n - 1) (k + 1) (drop width bs) ≡ first_whole fault width n k bs
+  whole_later zero k bs l w e = absurd (omega arith)
+  whole_later (suc n) k bs l w e =
+      let p : suc n - 1 ≡ n = omega arith in
+      rw (e, p) (grind (arith, nat_tests, add-one k))
+
+map_or : {A B : Type 0} (f : A → B) (a b : Option A) → or_else (option_map f a) (option_map f b) ≡ option_map f (or_else a b)
+map_or f None b = refl
+map_or f (Some x) b = refl
+
+-- where the bytes hold all entries, the first fault is that of a row of faults that tell their numbers
+module _ {F G : Type 0} (fault : ℕ → List ℕ → Option F) (width : ℕ) (told : ℕ → List ℕ → Option G) (tell : ℕ × F → G)
+    (same : (k : ℕ) (bs : List ℕ) → told k bs ≡ option_map tell (numbered k (fault k bs))) where
+  pub whole_first : (n k : ℕ) (bs : List ℕ) → width * n ≤ length bs → first_in told width n k bs ≡ option_map tell (first_whole fault width n k bs)
+  whole_first zero k bs l = refl
+  whole_first (suc n) k bs l =
+      let left : width * n ≤ length (drop width bs) = grind (arith, length-drop width bs) in
+      let later = first_whole fault width n (suc k) (drop width bs) in
+      let opened : first_whole fault width (suc n) k bs ≡ or_else (numbered k (fault k bs)) later = grind (arith, nat_tests) in
+      ap (λ (o : Option G). or_else o (first_in told width n (suc k) (drop width bs))) (same k bs)
+      ∙ ap (or_else (option_map tell (numbered k (fault k bs)))) (whole_first n (suc k) (drop width bs) left)
+      ∙ map_or tell (numbered k (fault k bs)) later
+      ∙ sym (ap (option_map tell) opened)
+
+-- an answer that tells whether there is a fault
+module _ {F : Type 0} where
+  pub verdict_ok : (r : Result (Unit {0}) F) (o : Option F) → r ≡ verdict o → is_ok r ≡ true → o ≡ None
+  verdict_ok r None e h = refl
+  verdict_ok r (Some f) e h = absurd (let z : ◌≡◌ {A = ℕ} 0 1 = cc in omega arith)
+
+  pub verdict_err : (f : F) (o : Option F) → Err f ≡ verdict o → o ≡ Some f
+  verdict_err f None e = absurd (let z : ◌≡◌ {A = ℕ} 0 1 = cc in omega arith)
+  verdict_err f (Some g) e = cc
+
+  -- and each fault by what is told of it
+  pub told_fault : {G : Type 0} (tell : F → G) (P : F → G → Type 0) (r : Result (Unit {0}) F) (w : Result (Unit {0}) G) (o : Option F) (g : G) → r ≡ verdict o → MatchResult r (λ x. w ≡ Ok x) (λ f. IsErrAnd w (P f)) → w ≡ Err g → ((f : F) (g : G) → P f g → g ≡ tell f)
+      → option_map tell o ≡ Some g
+  told_fault tell P (Ok x) w o g e m h t = absurd (let z : ◌≡◌ {A = ℕ} 0 1 = cc in omega arith)
+  told_fault tell P (Err f) (Ok x) o g e m h t = absurd (let z : ◌≡◌ {A = ℕ} 0 1 = cc in omega arith)
+  told_fault tell P (Err f) (Err k) o g e m h t = let p = t f k m in let q = verdict_err f o e in rw (q, ← p) cc

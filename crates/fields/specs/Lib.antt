@@ -1,2 +1,4 @@
 pub mod Numbers
+pub mod Refusals
+pub mod Rows
 pub mod Scanning

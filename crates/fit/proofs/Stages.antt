@@ -1,6 +1,7 @@
 -- A last stage that is able is found exactly where some stage is able.
-use Rattle.std.proofs.Common.{◌≡◌, ℕ, zero, suc, ◌<◌, ◌≤◌, Bool, true, false, ◌||◌, ltb, List, length, is_some, Some, None, Option, sym, refl, ap, ◌∙◌, subst, ⊎_elim, arith}
-use Rattle.std.proofs.lemmas.Bool.{cases_eq, or_left, or_right, or_from, le-ltb}
+use Rattle.std.proofs.Common.{◌≡◌, ℕ, zero, suc, ◌<◌, ◌≤◌, true, false, List, length, is_some, Some, None, Option, sym, refl, ap, ◌∙◌, ⊎_elim, arith}
+use Rattle.std.proofs.lemmas.Bool.{cases_eq, or_left, or_right, or_from}
+use Rattle.std.proofs.lemmas.Bool.Decides.{nat_tests}
 use Rattle.layout.specs.Able.{able, LastAble}
 use Rattle.instruction.specs.declared.instructions.Instruction.{Instruction}
 use Rattle.instruction.specs.Operations.{operation_of}
@@ -24,7 +25,5 @@ module _ (sets : List ℕ) (operation : ℕ) where
   found_some (Some k) h = sym (one_below (length sets) k h.0 h.1)
 
 -- an operation of 2 and more is placed exactly where a stage is found
-pub placed_by : (sets : List ℕ) (i : Instruction) (operation : ℕ) (o : Option ℕ) → operation ≡ operation_of i → 2 ≤ operation → LastAble sets operation o → is_some o ≡ placed sets i
-placed_by sets i operation o e l h =
-    let p : ltb (operation_of i) 2 ≡ false = le-ltb (operation_of i) 2 (subst (λ (n : ℕ). 2 ≤ n) e l) in
-    found_some sets operation o h ∙ ap (λ (n : ℕ). some_below (length sets) sets n) e ∙ sym (ap (λ (b : Bool). b || some_below (length sets) sets (operation_of i)) p)
+pub placed_by : (sets : List ℕ) (i : Instruction) (o : Option ℕ) → 2 ≤ operation_of i → LastAble sets (operation_of i) o → placed sets i ≡ is_some o
+placed_by sets i o l h = grind (arith, nat_tests, found_some sets (operation_of i) o h)

@@ -1,5 +1,5 @@
 -- Which instructions have a stage, and which operations a unit knows.
-use Rattle.std.specs.Prelude.{◌≡◌, ℕ, zero, suc, ◌+◌, ◌*◌, ◌<◌, Bool, true, false, ◌||◌, List, length, Some, None, Option, nat_lt, slice_index_or}
+use Rattle.std.specs.Prelude.{◌≡◌, ℕ, zero, suc, ◌+◌, ◌*◌, ◌<◌, Bool, true, false, ◌||◌, List, length, nat_lt, slice_index_or}
 use Rattle.fields.specs.declared.refusal.Refusal.{Refusal}
 use Rattle.fields.specs.Numbers.{holds}
 use Rattle.instruction.specs.declared.instructions.Instruction.{Instruction}
@@ -36,11 +36,6 @@ All test is = (k : ℕ) → k < length is → test (slice_index_or is k Halt) �
 -- the instruction at a place does not pass
 abbrev pub Fails : (Instruction → Bool) → List Instruction → ℕ → Type 0
 Fails test is k = (k < length is) × (test (slice_index_or is k Halt) ≡ false)
-
--- an instruction that does not pass, or that all do
-abbrev pub Found : (Instruction → Bool) → List Instruction → Option ℕ → Type 0
-Found test is None = All test is
-Found test is (Some k) = Fails test is k
 
 -- a refusal's record is one for which the answer is no; which one is free
 abbrev pub Unfit : List ℕ → ℕ → List Instruction → FitFault → Type 0

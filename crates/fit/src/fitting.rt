@@ -1,30 +1,35 @@
 ghost use Rattle.std.specs.Prelude.{◌≡◌, Ok, Err};
 ghost use Rattle.image.specs.Meaning.{program};
 ghost use Rattle.layout.specs.Meaning.{sets_in};
-ghost use Rattle.fit.specs.Fitting.{placed, heard, All, Unfit};
-ghost use Rattle.fit.specs.Pairs.{FitsTogether};
+ghost use Rattle.fit.specs.Fitting.{heard, All, Unfit};
 
 use crate::faults::FitFault;
-use crate::parts::FittedParts;
-use crate::searches::{unheard, unplaced};
+use crate::pairs::Fitted;
+use crate::questions::{heard, placed};
 use image::Image;
 use layout::Layout;
 use unit::Unit;
 
 /// Fits an image to a layout, for a unit: first every record is asked for a stage, then for the
 /// unit's operation. A refusal names one record for which the answer is no.
-pub fn fit<'a, U: Unit>(image: Image<'a>, layout: Layout<'a>) -> Result<FittedParts<'a>, FitFault>
-    ensures value { elim result [ Ok p ↦ (p.image ≡ image.entry.parts) × (p.layout ≡ layout.entry.parts) × All (placed (sets_in layout.entry.parts)) (program image.entry.parts) × All (heard U.Unit.known) (program image.entry.parts) | Err fault ↦ Unfit (sets_in layout.entry.parts) U.Unit.known (program image.entry.parts) fault ] }
-    ensures fits { elim result [ Ok p ↦ FitsTogether p | Err fault ↦ Unit {0} ] }
+pub fn fit<'a, U: Unit>(image: Image<'a>, layout: Layout<'a>) -> Result<Fitted<'a>, FitFault>
+    ensures { elim result [ Ok p ↦ (p.image ≡ image.entry) × (p.layout ≡ layout.entry) × All (heard U.Unit.KNOWN) (program image.entry) | Err fault ↦ Unfit (sets_in layout.entry) U.Unit.KNOWN (program image.entry) fault ] }
 {
-    if let Some(index) = unplaced(&image, &layout) {
-        return Err(FitFault::NoStage { index });
+    if let Some(index) = image
+        .instructions()
+        .position(|instruction| !placed(&layout, instruction))
+    {
+        return Err(FitFault::NoStage {
+            index: index as u16,
+        });
     }
-    if let Some(index) = unheard(&image, U::operations()) {
-        return Err(FitFault::UnknownOperation { index });
+    if let Some(index) = image
+        .instructions()
+        .position(|instruction| !heard(U::KNOWN, instruction))
+    {
+        return Err(FitFault::UnknownOperation {
+            index: index as u16,
+        });
     }
-    Ok(FittedParts {
-        image: image.parts,
-        layout: layout.parts,
-    })
+    Ok(Fitted { image, layout })
 }

@@ -4,11 +4,9 @@
 pub use faults::FitFault;
 pub use fitting::fit;
 pub use pairs::Fitted;
-pub use parts::FittedParts;
 
 mod faults;
 mod fitting;
 mod pairs;
-mod parts;
-mod searches;
+mod questions;
 mod telling;

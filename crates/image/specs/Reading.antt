@@ -1,18 +1,23 @@
 -- What an image is read as, from a list of bytes.
-use Rattle.std.specs.Prelude.{ℕ, ◌+◌, ◌*◌, Bool, cond, not, ◌&&◌, List, length, take, drop, is_some, Some, None, Ok, Err, Option, Result, ◌==◌, nat_le, nat_lt}
+use Rattle.std.specs.Prelude.{◌≡◌, ℕ, ◌+◌, ◌*◌, ◌<◌, ◌≤◌, Bool, true, cond, not, ◌&&◌, List, length, take, drop, is_some, Some, None, Ok, Err, Option, Result, ◌==◌, nat_le, nat_lt}
+use Rattle.std.specs.Result.{result_err}
 use Rattle.fields.specs.Numbers.{two_at, begins}
 use Rattle.fields.specs.Scanning.{first_in, entries_of}
 use Rattle.record.specs.Decoding.{record_of, instruction_of}
 use Rattle.record.specs.declared.faults.RecordFault.{RecordFault}
 use Rattle.instruction.specs.declared.instructions.Instruction.{Instruction}
 use Rattle.instruction.specs.declared.instructions.Instruction.TheVariants.{Halt}
-use Rattle.image.specs.declared.parts.Head.{Head}
+use Rattle.image.specs.declared.images.Head.{Head}
 use Rattle.image.specs.declared.faults.ImageFault.{ImageFault}
 use Rattle.image.specs.declared.faults.ImageFault.TheVariants.{ShortHead, Mark, Version, Count, Handler, ShortRecords, Record}
 
 abbrev pub fault_at : ℕ → Result Instruction RecordFault → Option ImageFault
 fault_at index (Ok i) = None
 fault_at index (Err fault) = Some (Record index fault)
+
+-- why the record that the bytes begin with is no instruction
+abbrev pub decoder_fault : List ℕ → Option RecordFault
+decoder_fault bytes = result_err (instruction_of (record_of bytes))
 
 -- the fault of the record that the bytes begin with
 abbrev pub record_fault : ℕ → List ℕ → Option ImageFault
@@ -79,3 +84,7 @@ with_head (Ok head) bytes =
 -- the image that the bytes begin with, or the first question whose answer is no
 abbrev pub image_of : List ℕ → Result Contents ImageFault
 image_of bytes = with_head (head_of bytes) bytes
+
+-- the answer to each question that an image is asked was yes
+abbrev pub WasRead : Head → List ℕ → Type 0
+WasRead head records = (head.count ≤ 4096) × (head.handler < head.count) × (length records ≡ 8 * head.count) × (sound head.count records ≡ true)

@@ -2,13 +2,12 @@
 #![tactic(auto)]
 
 pub use faults::ImageFault;
-pub use images::Image;
-pub use parts::{Head, ImageParts};
+pub use images::{Head, Image};
 pub use reader::read_image;
 
 mod faults;
 mod images;
-mod parts;
+mod instructions;
 mod program;
 mod reader;
 mod telling;

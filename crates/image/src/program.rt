@@ -8,37 +8,34 @@ use record::Record;
 
 impl<'a> Image<'a> {
     pub fn version(&self) -> u16
-        ensures { result ≡ self.now.parts.head.version }
+        ensures { result ≡ self.now.head.version }
     {
-        self.parts.head.version
+        self.head.version
     }
 
     /// How many records it has: 1 to 4,096.
     pub fn count(&self) -> u16
-        ensures value { result ≡ self.now.parts.head.count }
+        ensures value { result ≡ self.now.head.count }
         ensures bound { result ≤ 4096 }
     {
-        self.parts.head.count
+        self.head.count
     }
 
     /// The place at which a trap goes on, below the count.
     pub fn handler(&self) -> u16
-        ensures value { result ≡ self.now.parts.head.handler }
-        ensures bound { result < self.now.parts.head.count }
+        ensures value { result ≡ self.now.head.handler }
+        ensures bound { result < self.now.head.count }
     {
-        self.parts.head.handler
+        self.head.handler
     }
 
     /// The instruction at a place; none at or past the count.
+    #[tactic(auto, using(crate::proofs::Programs::program_past, crate::proofs::Programs::program_at))]
     pub fn fetch(&self, place: u32) -> Option<Instruction>
-        ensures { result ≡ slice_get (program self.now.parts) place }
+        ensures { result ≡ slice_get (program self.now) place }
     {
-        if place >= u32::from(self.parts.head.count) {
-            return None;
-        }
-        match Record::split(&self.parts.records[8 * place as usize..]) {
-            Some((record, _)) => record.instruction().ok(),
-            None => None,
-        }
+        let bytes = self.records.get(8 * place as usize..)?;
+        let (record, _) = Record::split(bytes)?;
+        record.instruction().ok()
     }
 }

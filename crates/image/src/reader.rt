@@ -1,39 +1,38 @@
 ghost use Rattle.std.specs.Prelude.{◌≡◌, ◌*◌, ◌<◌, ◌≤◌, length, Ok, Err};
-ghost use Rattle.image.specs.Reading.{head_of, fault_in, image_of};
-ghost use Rattle.image.specs.Meaning.{told, WasRead};
+ghost use Rattle.image.specs.Reading.{head_of, decoder_fault, image_of};
+ghost use Rattle.image.specs.Meaning.{told};
 
 use crate::faults::ImageFault;
-use crate::parts::{Head, ImageParts};
-use record::Record;
+use crate::images::{Head, Image};
+use fields::{Entries, first_fault};
+use record::{Record, RecordFault};
 
-/// The first record that is no instruction, lowest first.
-fn first_fault(records: &[u8], count: u16) -> Option<ImageFault>
-    requires { length records.now ≡ 8 * count }
-    ensures { result ≡ fault_in count 0 records.now }
-{
-    let mut rest = records;
-    for index in 0..count {
-        let Some((record, more)) = Record::split(rest) else {
-            return unreachable();
-        };
-        match record.instruction() {
-            Ok(_) => rest = more,
-            Err(fault) => return Some(ImageFault::Record { index, fault }),
-        }
+/// Records in a row: each must be an instruction.
+struct Records;
+
+impl Entries for Records {
+    type Fault = RecordFault;
+
+    ghost width = { 8 };
+
+    ghost fault = { λ _ index bytes. decoder_fault bytes };
+
+    fn judge<'a>(&self, _index: u16, bytes: &'a [u8]) -> Option<Result<&'a [u8], RecordFault>> {
+        let (record, rest) = Record::split(bytes)?;
+        Some(record.instruction().map(|_| rest))
     }
-    None
 }
 
 /// The numbers of the first nine bytes, where they begin an image.
 fn read_head(bytes: &[u8]) -> Result<Head, ImageFault>
     ensures { result ≡ head_of bytes.now }
 {
-    let [m0, m1, m2, v1, v0, c1, c0, h1, h0, ..] = bytes else {
+    let [_, _, _, v1, v0, c1, c0, h1, h0, ..] = bytes else {
         return Err(ImageFault::ShortHead {
             handed: bytes.len(),
         });
     };
-    if *m0 != b'C' || *m1 != b'F' || *m2 != b'P' {
+    if !bytes.starts_with(b"CFP") {
         return Err(ImageFault::Mark);
     }
     let version = u16::from_be_bytes([*v1, *v0]);
@@ -41,7 +40,7 @@ fn read_head(bytes: &[u8]) -> Result<Head, ImageFault>
         return Err(ImageFault::Version);
     }
     let count = u16::from_be_bytes([*c1, *c0]);
-    if count == 0 || count > 4096 {
+    if !(1..=4096).contains(&count) {
         return Err(ImageFault::Count);
     }
     let handler = u16::from_be_bytes([*h1, *h0]);
@@ -56,20 +55,16 @@ fn read_head(bytes: &[u8]) -> Result<Head, ImageFault>
 }
 
 /// The image that the bytes begin with, and the bytes that follow it.
-pub fn read_image(bytes: &[u8]) -> Result<(ImageParts<'_>, &[u8]), ImageFault>
-    ensures value { elim result [ Ok p ↦ image_of bytes.now ≡ Ok (told p.0 p.1.now) | Err fault ↦ image_of bytes.now ≡ Err fault ] }
-    ensures read { elim result [ Ok p ↦ WasRead p.0 | Err fault ↦ Unit {0} ] }
+pub fn read_image(bytes: &[u8]) -> Result<(Image<'_>, &[u8]), ImageFault>
+    ensures { elim result [ Ok p ↦ image_of bytes.now ≡ Ok (told p.0 p.1.now) | Err fault ↦ image_of bytes.now ≡ Err fault ] }
 {
     let head = read_head(bytes)?;
-    let size = 8 * head.count as usize;
-    if bytes.len() < 9 + size {
+    let Some((records, rest)) = bytes[9..].split_at_checked(8 * usize::from(head.count)) else {
         return Err(ImageFault::ShortRecords {
             handed: bytes.len(),
         });
-    }
-    let (records, rest) = bytes[9..].split_at(size);
-    match first_fault(records, head.count) {
-        Some(fault) => Err(fault),
-        None => Ok((ImageParts { head, records }, rest)),
-    }
+    };
+    let judged = first_fault(&Records, records, head.count);
+    judged.map_err(|(index, fault)| ImageFault::Record { index, fault })?;
+    Ok((Image { head, records }, rest))
 }

@@ -4,42 +4,24 @@ ghost use Rattle.image.specs.Faults.{image_refusal};
 use crate::faults::ImageFault;
 use fields::Refusal;
 
-impl ImageFault {
+impl From<ImageFault> for Refusal {
+    ghost from_gives = { λ f r. r ≡ image_refusal f };
+
     /// The number and the byte place, which counts from the image's first byte.
-    pub fn refusal(self) -> Refusal
-        ensures { result ≡ image_refusal self }
-    {
-        match self {
-            ImageFault::ShortHead { handed } => Refusal {
-                number: 1,
-                place: handed,
-            },
-            ImageFault::Mark => Refusal {
-                number: 2,
-                place: 0,
-            },
-            ImageFault::Version => Refusal {
-                number: 3,
-                place: 3,
-            },
-            ImageFault::Count => Refusal {
-                number: 4,
-                place: 5,
-            },
-            ImageFault::Handler => Refusal {
-                number: 5,
-                place: 7,
-            },
-            ImageFault::ShortRecords { handed } => Refusal {
-                number: 6,
-                place: handed,
-            },
-            ImageFault::Record { index, fault } => {
-                Refusal {
-                    number: fault.number(),
-                    place: 9 + 8 * index as usize + fault.offset() as usize,
-                }
-            }
-        }
+    // A match, since cases that hold something can have no numbers of their own.
+    fn from(fault: ImageFault) -> Refusal {
+        let (number, place) = match fault {
+            ImageFault::ShortHead { handed } => (1, handed),
+            ImageFault::Mark => (2, 0),
+            ImageFault::Version => (3, 3),
+            ImageFault::Count => (4, 5),
+            ImageFault::Handler => (5, 7),
+            ImageFault::ShortRecords { handed } => (6, handed),
+            ImageFault::Record { index, fault } => (
+                fault.number(),
+                9 + 8 * usize::from(index) + usize::from(fault.offset()),
+            ),
+        };
+        Refusal { number, place }
     }
 }

@@ -56,18 +56,15 @@ fn told(instruction: Instruction) -> Told {
 
 /// The instruction at a place, as numbers.
 fn told_at(image: Image<'_>, place: u32) -> Option<Told> {
-    match image.fetch(place) {
-        Some(instruction) => Some(told(instruction)),
-        None => None,
-    }
+    image.fetch(place).map(told)
 }
 
 /// Each record, alone in an image, is fetched as this instruction.
 fn instructions_are(rt: &impl Abort, table: &[([u8; 8], Told)]) -> Result<(), Fail> {
     for (record, expected) in table {
         let bytes = one(*record);
-        let (parts, _) = read_image(&bytes)?;
-        let found = told_at(Image { parts }, 0);
+        let (image, _) = read_image(&bytes)?;
+        let found = told_at(image, 0);
         assert_eq!(rt;
             (*record, found),
             (*record, Some(*expected)),
@@ -120,8 +117,7 @@ fn unit_operations(rt: HostRuntime) -> Result<(), Fail> {
 #[test]
 fn places(rt: HostRuntime) -> Result<(), Fail> {
     let bytes = two([1, 0, 0, 0, 0, 0, 0, 1], [2, 4, 0, 0, 0, 0, 0, 9]);
-    let (parts, _) = read_image(&bytes)?;
-    let image = Image { parts };
+    let (image, _) = read_image(&bytes)?;
     let head = (image.version(), image.count(), image.handler());
     assert_eq!(rt; head, (1, 2, 1), "version, count, handler");
     let found = [
@@ -136,6 +132,17 @@ fn places(rt: HostRuntime) -> Result<(), Fail> {
         found,
         [Some(jump), Some(set), None, None],
         "places 0, 1, 2 and the highest"
+    );
+    let mut instructions = image.instructions().map(told);
+    let in_turn = [
+        instructions.next(),
+        instructions.next(),
+        instructions.next(),
+    ];
+    assert_eq!(rt;
+        in_turn,
+        [Some(jump), Some(set), None],
+        "one after the other"
     );
     Ok(())
 }
@@ -173,10 +180,8 @@ fn records_split(rt: HostRuntime) {
 
 /// The number of a record's fault, and where the field begins in the record.
 fn fault_of(record: Record) -> Option<(u8, u8)> {
-    match record.instruction() {
-        Ok(_) => None,
-        Err(fault) => Some((fault.number(), fault.offset())),
-    }
+    let fault = record.instruction().err()?;
+    Some((fault.number(), fault.offset()))
 }
 
 #[test]

@@ -1,6 +1,6 @@
 //! The nine bytes that an image begins with, and how many bytes there are.
 use crate::images::{HALT, halts, heads_are, one, refusal_of, two};
-use image::{Image, read_image};
+use image::read_image;
 use std::alloc::AllocError;
 use std::test::Fail;
 
@@ -113,8 +113,7 @@ fn two_records_and_their_handler(rt: HostRuntime) {
 #[test]
 fn most_records(rt: HostRuntime) -> Result<(), Fail> {
     let bytes = halts(rt.alloc(), 4096, 4095, 4096)?;
-    let (parts, rest) = read_image(&bytes)?;
-    let image = Image { parts };
+    let (image, rest) = read_image(&bytes)?;
     let told = (image.version(), image.count(), image.handler());
     assert_eq!(rt;
         (told, rest.len()),

@@ -9,31 +9,23 @@ pub(crate) const HALT: [u8; 8] = [0; 8];
 
 /// The number and the byte place of the refusal; none where the bytes are read.
 pub(crate) fn refusal_of(bytes: &[u8]) -> Option<(u8, usize)> {
-    match read_image(bytes) {
-        Ok(_) => None,
-        Err(fault) => {
-            let Refusal { number, place } = fault.refusal();
-            Some((number, place))
-        }
-    }
+    let fault = read_image(bytes).err()?;
+    let Refusal { number, place } = fault.into();
+    Some((number, place))
 }
 
 /// The image of one record, with handler 0. The record begins at byte 9.
 pub(crate) fn one(record: [u8; 8]) -> [u8; 17] {
     let mut bytes = *b"CFP\0\x01\0\x01\0\0\0\0\0\0\0\0\0\0";
-    for at in 0..8 {
-        bytes[9 + at] = record[at];
-    }
+    bytes[9..].copy_from_slice(&record);
     bytes
 }
 
 /// The image of two records, with handler 1. They begin at bytes 9 and 17.
 pub(crate) fn two(lower: [u8; 8], higher: [u8; 8]) -> [u8; 25] {
     let mut bytes = *b"CFP\0\x01\0\x02\0\x01\0\0\0\0\0\0\0\0\0\0\0\0\0\0\0\0";
-    for at in 0..8 {
-        bytes[9 + at] = lower[at];
-        bytes[17 + at] = higher[at];
-    }
+    bytes[9..17].copy_from_slice(&lower);
+    bytes[17..].copy_from_slice(&higher);
     bytes
 }
 
@@ -56,9 +48,7 @@ pub(crate) fn halts(
 /// A head, and one record that halts.
 fn headed(head: [u8; 9]) -> [u8; 17] {
     let mut bytes = [0; 17];
-    for at in 0..9 {
-        bytes[at] = head[at];
-    }
+    bytes[..9].copy_from_slice(&head);
     bytes
 }
 

@@ -18,3 +18,8 @@ operands_of (JumpRegister target guess) = takes (Some (Register target)) None
 operands_of (Load destination base offset) = takes (Some (Register base)) None
 operands_of (Store base stored offset) = takes (Some (Register base)) (Some (Register stored))
 operands_of (Compute operation destination first second) = takes (Some first) (Some second)
+
+-- the operands of what stands at a place: none where nothing stands there
+abbrev pub operands_at : Option Instruction → Operands
+operands_at None = takes None None
+operands_at (Some instruction) = operands_of instruction

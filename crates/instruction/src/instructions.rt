@@ -8,7 +8,7 @@ pub enum Operand {
 }
 
 /// The operands of an instruction, as many as it has.
-#[derive(Clone, Copy)]
+#[derive(Clone, Copy, Default)]
 pub struct Operands {
     pub first: Option<Operand>,
     pub second: Option<Operand>,

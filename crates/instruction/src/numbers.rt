@@ -1,5 +1,8 @@
 ghost use Rattle.std.specs.Prelude.{◌<◌};
 
+// Two types of one shape, so that no unit is asked for a register. One generic type for both would
+// carry a phantom parameter, which every clause that makes a register would have to name.
+
 /// One of the registers r0 to r15.
 #[derive(Clone, Copy, Debug, PartialEq)]
 pub struct Register {

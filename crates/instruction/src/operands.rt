@@ -1,5 +1,5 @@
 ghost use Rattle.std.specs.Prelude.{◌≡◌};
-ghost use Rattle.instruction.specs.Operands.{operands_of};
+ghost use Rattle.instruction.specs.Operands.{operands_of, operands_at};
 
 use crate::instructions::{Instruction, Operand, Operands};
 
@@ -9,9 +9,7 @@ impl Instruction {
         ensures { result ≡ operands_of self }
     {
         let (first, second) = match self {
-            Instruction::Halt => (None, None),
-            Instruction::Jump { .. } => (None, None),
-            Instruction::Set { .. } => (None, None),
+            Instruction::Halt | Instruction::Jump { .. } | Instruction::Set { .. } => (None, None),
             Instruction::BranchZero { tested, .. } => (Some(Operand::Register(tested)), None),
             Instruction::JumpRegister { target, .. } => (Some(Operand::Register(target)), None),
             Instruction::Load { base, .. } => (Some(Operand::Register(base)), None),
@@ -22,5 +20,14 @@ impl Instruction {
             Instruction::Compute { first, second, .. } => (Some(first), Some(second)),
         };
         Operands { first, second }
+    }
+}
+
+impl Operands {
+    /// The operands of what stands at a place; past the end of an image there are none.
+    pub fn of(found: Option<Instruction>) -> Operands
+        ensures { result ≡ operands_at found }
+    {
+        found.map(Instruction::operands).unwrap_or_default()
     }
 }

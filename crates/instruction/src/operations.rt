@@ -8,6 +8,7 @@ impl Instruction {
     pub fn operation(self) -> u8
         ensures { result ≡ operation_of self }
     {
+        // A case with fields carries no number of its own, so the numbers stand here.
         match self {
             Instruction::Halt => 0,
             Instruction::Jump { .. } => 1,

@@ -78,3 +78,27 @@ fn lines(rt: HostRuntime) -> Result<(), Fail> {
     );
     Ok(())
 }
+
+#[test]
+fn numbered_lines(rt: HostRuntime) -> Result<(), Fail> {
+    let heap = rt.alloc();
+    let halted = Retirement {
+        place: 3,
+        action: Action::Halt,
+    };
+    let trapped = Retirement {
+        place: 70000,
+        action: Action::Trap { word: 201072 },
+    };
+    let mut places = [halted; 3];
+    let mut log = Log::new(&mut places);
+    assert_eq!(rt; (log.add(trapped), log.add(halted)), (Ok(()), Ok(())));
+    let mut text = String::from_str(heap, "all:\n")?;
+    log.write_numbered(heap, &mut text)?;
+    assert_eq!(rt;
+        text.as_str(),
+        "all:\n1 70000 3 15 201072\n2 3 4 0 0\n",
+        "a line for each entry, and none for the free place"
+    );
+    Ok(())
+}

@@ -8,16 +8,10 @@ type Access = (u32, Option<u32>, Result<u32, u8>);
 
 fn answer_of<M: Memory>(memory: &mut M, address: u32, written: Option<u32>) -> Result<u32, u8> {
     let answer = match written {
-        Some(word) => match memory.write(address, word) {
-            Ok(_) => Ok(word),
-            Err(fault) => Err(fault),
-        },
+        Some(word) => memory.write(address, word).map(|()| word),
         None => memory.read(address),
     };
-    match answer {
-        Ok(word) => Ok(word),
-        Err(fault) => Err(fault.number()),
-    }
+    answer.map_err(|fault| fault.number())
 }
 
 /// The memory has this size, before and after these accesses, which have these answers.
@@ -35,12 +29,7 @@ fn answers_are<M: Memory>(rt: &impl Abort, memory: &mut M, size: u32, table: &[A
 
 /// Is every word of the memory 0?
 fn all_zero(memory: &OwnWords) -> bool {
-    for address in 0..64 {
-        if memory.read(address).ok() != Some(0) {
-            return false;
-        }
-    }
-    true
+    (0..64).all(|address| memory.read(address) == Ok(0))
 }
 
 #[test]

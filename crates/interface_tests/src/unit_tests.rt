@@ -1,16 +1,15 @@
 //! The table of the whole-number unit.
 use std::process::Abort;
-use unit::{Outcome, Unit, WholeNumber};
+use unit::{Unit, WholeNumber};
 
 /// An operation, its two words, and the outcome.
 type Case = (u8, u32, u32, Result<u32, u8>);
 
 /// The outcome as a word or the number of a fault.
 fn asked(operation: u8, a: u32, b: u32) -> Result<u32, u8> {
-    match WholeNumber.ask(operation, a, b) {
-        Outcome::Word(word) => Ok(word),
-        Outcome::Fault(fault) => Err(fault),
-    }
+    WholeNumber
+        .ask(operation, a, b)
+        .map_err(|fault| fault.number)
 }
 
 fn outcomes_are(rt: &impl Abort, table: &[Case]) {
@@ -147,6 +146,5 @@ fn unknown_operations(rt: HostRuntime) {
 
 #[test]
 fn known_operations(rt: HostRuntime) {
-    let known = (WholeNumber::operations(), WholeNumber::KNOWN);
-    assert_eq!(rt; known, (1023, 1023), "bits 0 to 9");
+    assert_eq!(rt; WholeNumber::KNOWN, 1023, "bits 0 to 9");
 }

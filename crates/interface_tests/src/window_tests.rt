@@ -10,17 +10,11 @@ fn checked(base: u32, size: u32) -> u8 {
 }
 
 fn read<M: Memory>(memory: &M, address: u32) -> Result<u32, u8> {
-    match memory.read(address) {
-        Ok(word) => Ok(word),
-        Err(fault) => Err(fault.number()),
-    }
+    memory.read(address).map_err(|fault| fault.number())
 }
 
 fn write<M: Memory>(memory: &mut M, address: u32, word: u32) -> Result<(), u8> {
-    match memory.write(address, word) {
-        Ok(()) => Ok(()),
-        Err(fault) => Err(fault.number()),
-    }
+    memory.write(address, word).map_err(|fault| fault.number())
 }
 
 #[test]

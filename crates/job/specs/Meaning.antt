@@ -2,14 +2,14 @@
 use Rattle.std.specs.Prelude.{[]}
 use Rattle.image.specs.Meaning as image
 use Rattle.layout.specs.Meaning as layout
-use Rattle.moves.specs.declared.parts.MoveListParts.{MoveListParts}
+use Rattle.moves.specs.declared.lists.MoveList.{MoveList}
 use Rattle.moves.specs.Meaning as moves
 use Rattle.moves.specs.Reading as list
 use Rattle.job.specs.declared.states.Job.{Job}
 use Rattle.job.specs.Reading.{Contents}
 
 -- a move list after which nothing is left
-abbrev pub whole_told : MoveListParts → list.Contents
+abbrev pub whole_told : MoveList → list.Contents
 whole_told p = moves.told p []
 
 abbrev pub told : Job → Contents
@@ -20,7 +20,3 @@ told job = record {
   sets = layout.sets_in job.layout;
   moves = moves.moves_in job.moves;
 }
-
--- the answer to each question that a job's parts are asked was yes
-abbrev pub WasRead : Job → Type 0
-WasRead job = image.WasRead job.image × layout.WasRead job.layout × moves.WasRead job.moves

@@ -1,3 +1,6 @@
+ghost use Rattle.std.specs.Prelude.{◌≡◌};
+ghost use Rattle.job.specs.declared.faults.JobFault.TheVariants.{Image};
+
 use image::ImageFault;
 use layout::LayoutFault;
 use moves::MoveListFault;
@@ -10,4 +13,13 @@ pub enum JobFault {
     Layout { at: usize, fault: LayoutFault },
     Moves { at: usize, fault: MoveListFault },
     LeftOver { at: usize },
+}
+
+impl From<ImageFault> for JobFault {
+    ghost from_gives = { λ fault job_fault. job_fault ≡ Image fault };
+
+    /// An image begins a job, so its fault needs no place.
+    fn from(fault: ImageFault) -> JobFault {
+        JobFault::Image(fault)
+    }
 }

@@ -1,6 +1,6 @@
-use image::ImageParts;
-use layout::LayoutParts;
-use moves::MoveListParts;
+use image::Image;
+use layout::Layout;
+use moves::MoveList;
 
 // Each state is consumed by the call that reads the next part, so the parts are read in order.
 
@@ -12,22 +12,22 @@ pub struct JobBytes<'a> {
 /// A job whose image is read: next is its layout.
 pub struct JobWithImage<'a> {
     pub(crate) length: usize,
-    pub(crate) image: ImageParts<'a>,
+    pub(crate) image: Image<'a>,
     pub(crate) rest: &'a [u8],
 }
 
 /// A job whose image and layout are read: next are its moves.
 pub struct JobWithLayout<'a> {
     pub(crate) length: usize,
-    pub(crate) image: ImageParts<'a>,
-    pub(crate) layout: LayoutParts<'a>,
+    pub(crate) image: Image<'a>,
+    pub(crate) layout: Layout<'a>,
     pub(crate) rest: &'a [u8],
 }
 
 /// A job that is read whole.
 #[derive(Clone, Copy)]
 pub struct Job<'a> {
-    pub image: ImageParts<'a>,
-    pub layout: LayoutParts<'a>,
-    pub moves: MoveListParts<'a>,
+    pub image: Image<'a>,
+    pub layout: Layout<'a>,
+    pub moves: MoveList<'a>,
 }

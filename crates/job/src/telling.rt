@@ -14,15 +14,16 @@ fn moved_on(refusal: Refusal, at: usize) -> Refusal
     }
 }
 
-impl JobFault {
+impl From<JobFault> for Refusal {
+    ghost from_gives = { λ f r. r ≡ job_refusal f };
+
     /// The number and the byte place, which counts from the job's first byte.
-    pub fn refusal(self) -> Refusal
-        ensures { result ≡ job_refusal self }
-    {
-        match self {
-            JobFault::Image(fault) => fault.refusal(),
-            JobFault::Layout { at, fault } => moved_on(fault.refusal(), at),
-            JobFault::Moves { at, fault } => moved_on(fault.refusal(), at),
+    // A match, since cases that hold something can have no numbers of their own.
+    fn from(fault: JobFault) -> Refusal {
+        match fault {
+            JobFault::Image(fault) => Refusal::from(fault),
+            JobFault::Layout { at, fault } => moved_on(Refusal::from(fault), at),
+            JobFault::Moves { at, fault } => moved_on(Refusal::from(fault), at),
             JobFault::LeftOver { at } => Refusal {
                 number: 24,
                 place: at,

@@ -1,8 +1,8 @@
 //! Fit: a stage for every record, then an operation that the unit knows.
 use crate::told::{Told, add, put, told, two_stages};
-use fit::{FittedParts, fit};
-use image::{Image, read_image};
-use layout::{Layout, read_layout};
+use fit::{Fitted, fit};
+use image::read_image;
+use layout::read_layout;
 use std::alloc::{AllocError, Global};
 use std::process::Abort;
 use std::test::Fail;
@@ -19,12 +19,8 @@ const LOAD_AND_STORE: u32 = 96;
 fn three(operations: [u8; 3]) -> [u8; 33] {
     let head = *b"CFP\0\x01\0\x03\0\0";
     let mut bytes = [0; 33];
-    for at in 0..9 {
-        bytes[at] = head[at];
-    }
-    for record in 0..3 {
-        bytes[9 + 8 * record] = operations[record];
-    }
+    bytes[..9].copy_from_slice(&head);
+    [bytes[9], bytes[17], bytes[25]] = operations;
     bytes
 }
 
@@ -32,14 +28,14 @@ fn three(operations: [u8; 3]) -> [u8; 33] {
 fn refusal_of<'a>(image: &'a [u8], layout: &'a [u8]) -> Option<Told> {
     let (image, _) = read_image(image).ok()?;
     let (layout, _) = read_layout(layout).ok()?;
-    match fit::<WholeNumber>(Image { parts: image }, Layout { parts: layout }) {
+    match fit::<WholeNumber>(image, layout) {
         Ok(
-            FittedParts {
+            Fitted {
                 image: _,
                 layout: _,
             },
         ) => Some(None),
-        Err(fault) => Some(told(fault.refusal())),
+        Err(fault) => Some(Some(told(fault.into()))),
     }
 }
 

@@ -1,10 +1,7 @@
 //! Jobs: an image, a layout and a move list in a row, with every place counted from the job's first
 //! byte.
 use crate::told::{Told, add, add_noise, put, told};
-use image::Image;
 use job::read_job;
-use layout::Layout;
-use moves::MoveList;
 use std::alloc::{AllocError, Global};
 use std::process::Abort;
 use std::test::Fail;
@@ -15,10 +12,7 @@ const JOB: [u8; 42] =
     *b"CFP\0\x01\0\x01\0\0\0\0\0\0\0\0\0\0CFL\0\x01\x02\0\x01\0\x04\0\0\0\x60CFM\0\x01\0\x02\x01\0\x02\x0f";
 
 fn refusal_of(bytes: &[u8]) -> Told {
-    match read_job(bytes) {
-        Ok(_) => None,
-        Err(fault) => told(fault.refusal()),
-    }
+    read_job(bytes).err().map(|fault| told(fault.into()))
 }
 
 /// The job, with one byte changed, has this answer.
@@ -163,9 +157,7 @@ fn other_sizes(rt: HostRuntime) {
 /// The job with a byte after it.
 fn longer(byte: u8) -> [u8; 43] {
     let mut bytes = [byte; 43];
-    for at in 0..42 {
-        bytes[at] = JOB[at];
-    }
+    bytes[..42].copy_from_slice(&JOB);
     bytes
 }
 
@@ -220,15 +212,12 @@ fn parts_in_another_order(rt: HostRuntime) {
 #[test]
 fn parts_of_a_job(rt: HostRuntime) -> Result<(), Fail> {
     let job = read_job(&JOB)?;
-    let image = Image { parts: job.image };
-    let layout = Layout { parts: job.layout };
-    let moves = MoveList { parts: job.moves };
-    let found = (image.count(), layout.stages(), moves.count());
+    let found = (job.image.count(), job.layout.stages(), job.moves.count());
     assert_eq!(rt; found, (1, 2, 2), "records, stages, moves");
     let able = (
-        layout.last_able(16),
-        layout.last_able(6),
-        layout.last_able(3),
+        job.layout.last_able(16),
+        job.layout.last_able(6),
+        job.layout.last_able(3),
     );
     assert_eq!(rt;
         able,
@@ -302,10 +291,8 @@ fn noise_after_each_part(rt: HostRuntime) -> Result<(), Fail> {
 /// So many of the job's bytes.
 fn begun(heap: Global, length: usize) -> Result<Vec<u8>, AllocError> {
     let mut bytes = Vec::new(heap);
-    for at in 0..42usize {
-        if at < length {
-            bytes.push(JOB[at])?;
-        }
+    for byte in JOB.iter().take(length) {
+        bytes.push(*byte)?;
     }
     Ok(bytes)
 }

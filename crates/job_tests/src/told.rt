@@ -1,24 +1,20 @@
 //! How answers are compared, and bytes to read.
+// Two crates of tests have these few lines each: a library for them would make public calls of them, with contracts.
 use fields::Refusal;
 use std::alloc::AllocError;
 
 /// The number and the byte place of a refusal; none where the bytes are read.
 pub(crate) type Told = Option<(u8, usize)>;
 
-pub(crate) fn told(refusal: Refusal) -> Told {
-    let Refusal { number, place } = refusal;
-    Some((number, place))
+pub(crate) fn told(refusal: Refusal) -> (u8, usize) {
+    (refusal.number, refusal.place)
 }
 
 /// The layout of two stages. Their sets begin at bytes 6 and 10.
 pub(crate) fn two_stages(bottom: u32, top: u32) -> [u8; 14] {
     let mut bytes = *b"CFL\0\x01\x02\0\0\0\0\0\0\0\0";
-    let lower = bottom.to_be_bytes();
-    let higher = top.to_be_bytes();
-    for at in 0..4 {
-        bytes[6 + at] = lower[at];
-        bytes[10 + at] = higher[at];
-    }
+    bytes[6..10].copy_from_slice(&bottom.to_be_bytes());
+    bytes[10..].copy_from_slice(&top.to_be_bytes());
     bytes
 }
 

@@ -1,7 +1,9 @@
 -- What a layout is read as, from a list of bytes.
-use Rattle.std.specs.Prelude.{ℕ, ◌+◌, ◌*◌, ◌/◌, ◌%◌, Bool, cond, not, ◌&&◌, List, length, take, drop, Some, None, Ok, Err, Option, Result, ◌==◌, nat_le, nat_lt}
+use Rattle.std.specs.Prelude.{◌≡◌, ℕ, ◌+◌, ◌*◌, ◌/◌, ◌%◌, ◌≤◌, Bool, true, cond, not, ◌&&◌, List, length, take, drop, is_some, Some, None, Ok, Err, Option, Result, ◌==◌, nat_le, nat_lt}
 use Rattle.fields.specs.Numbers.{byte_at, two_at, four_at, begins}
 use Rattle.fields.specs.Scanning.{first_in, entries_of}
+use Rattle.std.specs.Option.{option_map}
+use Rattle.layout.specs.declared.faults.SetFault.{SetFault}
 use Rattle.layout.specs.declared.faults.SetFault.TheVariants.{Unheard, MemoryBelowTop}
 use Rattle.layout.specs.declared.faults.LayoutFault.{LayoutFault}
 use Rattle.layout.specs.declared.faults.LayoutFault.TheVariants.{ShortHead, Mark, Version, Stages, ShortSets, Set}
@@ -14,12 +16,19 @@ heard set = (set % 4) == 0 && (set / 128 % 512) == 0
 abbrev pub memoryless : ℕ → Bool
 memoryless set = (set / 32 % 4) == 0
 
+-- why a number is no set for a stage, of so many
+abbrev pub set_wrong : ℕ → ℕ → ℕ → Option SetFault
+set_wrong n stage set =
+    cond (not (heard set)) (Some Unheard)
+    (cond (nat_lt (stage + 1) n && not (memoryless set)) (Some MemoryBelowTop)
+    None)
+
+abbrev pub set_wrong_at : ℕ → ℕ → List ℕ → Option SetFault
+set_wrong_at n stage bytes = set_wrong n stage (four_at bytes 0)
+
 -- the fault of the set of a stage, of so many
 abbrev pub set_fault : ℕ → ℕ → ℕ → Option LayoutFault
-set_fault n stage set =
-    cond (not (heard set)) (Some (Set stage Unheard))
-    (cond (nat_lt (stage + 1) n && not (memoryless set)) (Some (Set stage MemoryBelowTop))
-    None)
+set_fault n stage set = option_map (Set stage) (set_wrong n stage set)
 
 abbrev pub set_fault_at : ℕ → ℕ → List ℕ → Option LayoutFault
 set_fault_at n stage bytes = set_fault n stage (four_at bytes 0)
@@ -27,6 +36,10 @@ set_fault_at n stage bytes = set_fault n stage (four_at bytes 0)
 -- the first fault of so many sets of a layout of n stages
 abbrev pub fault_in : ℕ → ℕ → ℕ → List ℕ → Option LayoutFault
 fault_in n left stage bytes = first_in (set_fault_at n) 4 left stage bytes
+
+-- the answer to each question that a layout is asked was yes: of its number of stages and its sets' bytes
+abbrev pub WasRead : ℕ → List ℕ → Type 0
+WasRead stages sets = (2 ≤ stages) × (stages ≤ 16) × (length sets ≡ 4 * stages) × (not (is_some (fault_in stages stages 0 sets)) ≡ true)
 
 -- so many sets in a row
 abbrev pub set_in : List ℕ → ℕ

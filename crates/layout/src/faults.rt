@@ -1,8 +1,8 @@
-/// Why a number is no set of operations for its stage.
+/// Why a number is no set of operations for its stage; its number is that of the question that decided.
 #[derive(Clone, Copy, Debug, PartialEq)]
 pub enum SetFault {
-    Unheard,
-    MemoryBelowTop,
+    Unheard = 15,
+    MemoryBelowTop = 16,
 }
 
 /// Why bytes are no layout: the reader's refusal.

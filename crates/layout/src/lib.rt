@@ -3,12 +3,11 @@
 
 pub use faults::{LayoutFault, SetFault};
 pub use layouts::Layout;
-pub use parts::LayoutParts;
 pub use reader::read_layout;
 
 mod faults;
 mod layouts;
-mod parts;
 mod reader;
+mod stage_sets;
 mod stages;
 mod telling;

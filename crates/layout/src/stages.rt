@@ -1,56 +1,53 @@
+#![tactic(auto, using(crate::proofs::Sets::sets_count, crate::proofs::Sets::set_at, crate::proofs::Above::last_from, crate::proofs::Above::nowhere_from))]
+
 ghost use Rattle.std.specs.Prelude.{◌≡◌, ◌<◌, ◌≤◌, length, slice_index};
 ghost use Rattle.layout.specs.Meaning.{sets_in};
 ghost use Rattle.layout.specs.Able.{able, LastAble, able_from};
 
 use crate::layouts::Layout;
+use fields::holds;
 
 impl<'a> Layout<'a> {
     /// How many stages it has: 2 to 16.
     pub fn stages(&self) -> usize
-        ensures value { result ≡ length (sets_in self.now.parts) }
+        ensures value { result ≡ length (sets_in self.now) }
         ensures low { 2 ≤ result }
         ensures high { result ≤ 16 }
     {
-        self.parts.stages as usize
+        usize::from(self.stages)
     }
 
     /// The set of a stage.
     fn set(&self, stage: usize) -> u32
-        requires { stage < self.now.parts.stages }
-        ensures { result ≡ slice_index (sets_in self.now.parts) stage }
+        requires { stage < self.now.stages }
+        ensures { result ≡ slice_index (sets_in self.now) stage }
     {
-        let sets = self.parts.sets;
-        let at = 4 * stage;
-        u32::from_be_bytes([sets[at], sets[at + 1], sets[at + 2], sets[at + 3]])
+        let [b3, b2, b1, b0, ..] = &self.sets[4 * stage..] else {
+            unreachable!()
+        };
+        u32::from_be_bytes([*b3, *b2, *b1, *b0])
     }
 
     /// Can the stage execute the operation? No stage past the top can.
     pub fn able(&self, stage: usize, operation: u8) -> bool
-        ensures { result ≡ able (sets_in self.now.parts) stage operation }
+        ensures { result ≡ able (sets_in self.now) stage operation }
     {
-        stage < self.stages() && operation < 32 && (self.set(stage) >> operation) % 2 == 1
+        stage < self.stages() && operation < 32 && holds(self.set(stage), operation)
     }
 
     /// The last stage that can execute the operation; none where no stage can.
     pub fn last_able(&self, operation: u8) -> Option<usize>
-        ensures { LastAble (sets_in self.now.parts) operation result }
+        ensures { LastAble (sets_in self.now) operation result }
     {
-        let mut last = None;
-        for stage in 0..self.stages() {
-            if self.able(stage, operation) {
-                last = Some(stage);
-            }
-        }
-        last
+        (0..self.stages())
+            .rev()
+            .find(|stage| self.able(*stage, operation))
     }
 
     /// Can some stage from this one on execute the operation?
     pub fn able_from(&self, stage: usize, operation: u8) -> bool
-        ensures { result ≡ able_from (length (sets_in self.now.parts)) (sets_in self.now.parts) stage operation }
+        ensures { result ≡ able_from (length (sets_in self.now)) (sets_in self.now) stage operation }
     {
-        match self.last_able(operation) {
-            Some(last) => stage <= last,
-            None => false,
-        }
+        self.last_able(operation).is_some_and(|last| stage <= last)
     }
 }

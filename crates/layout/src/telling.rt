@@ -6,46 +6,28 @@ use fields::Refusal;
 
 impl SetFault {
     /// The number of the question that decided.
+    // One cast for each enum: a trait would ask for the same line in an impl of each.
     pub fn number(self) -> u8
         ensures { result ≡ set_number self }
     {
-        match self {
-            SetFault::Unheard => 15,
-            SetFault::MemoryBelowTop => 16,
-        }
+        self as u8
     }
 }
 
-impl LayoutFault {
+impl From<LayoutFault> for Refusal {
+    ghost from_gives = { λ f r. r ≡ layout_refusal f };
+
     /// The number and the byte place, which counts from the layout's first byte.
-    pub fn refusal(self) -> Refusal
-        ensures { result ≡ layout_refusal self }
-    {
-        match self {
-            LayoutFault::ShortHead { handed } => Refusal {
-                number: 10,
-                place: handed,
-            },
-            LayoutFault::Mark => Refusal {
-                number: 11,
-                place: 0,
-            },
-            LayoutFault::Version => Refusal {
-                number: 12,
-                place: 3,
-            },
-            LayoutFault::Stages => Refusal {
-                number: 13,
-                place: 5,
-            },
-            LayoutFault::ShortSets { handed } => Refusal {
-                number: 14,
-                place: handed,
-            },
-            LayoutFault::Set { stage, fault } => Refusal {
-                number: fault.number(),
-                place: 6 + 4 * stage as usize,
-            },
-        }
+    // A match, since cases that hold something can have no numbers of their own.
+    fn from(fault: LayoutFault) -> Refusal {
+        let (number, place) = match fault {
+            LayoutFault::ShortHead { handed } => (10, handed),
+            LayoutFault::Mark => (11, 0),
+            LayoutFault::Version => (12, 3),
+            LayoutFault::Stages => (13, 5),
+            LayoutFault::ShortSets { handed } => (14, handed),
+            LayoutFault::Set { stage, fault } => (fault.number(), 6 + 4 * usize::from(stage)),
+        };
+        Refusal { number, place }
     }
 }

@@ -4,14 +4,13 @@ ghost use Rattle.memory.specs.Windows.{window_number};
 
 use crate::access::{AccessFault, WindowFault};
 
+// One cast for each enum: a trait would ask for the same line in an impl of each.
 impl AccessFault {
     /// The refusal's number.
     pub fn number(self) -> u8
         ensures { result ≡ access_number self }
     {
-        match self {
-            AccessFault::Outside => 44,
-        }
+        self as u8
     }
 }
 
@@ -20,8 +19,6 @@ impl WindowFault {
     pub fn number(self) -> u8
         ensures { result ≡ window_number self }
     {
-        match self {
-            WindowFault::Misfit => 42,
-        }
+        self as u8
     }
 }

@@ -1,7 +1,7 @@
 ghost use Rattle.std.specs.Prelude.{◌≡◌, ℕ, List, [], ◌∷◌, length, take, drop};
-ghost use Rattle.memory.specs.Short.{take_short};
+ghost use Rattle.std.proofs.Common.{arith, length-take};
 
-use crate::access::AccessFault;
+use crate::access::{AccessFault, word_at};
 use crate::traits::{Memory, Readable};
 
 /// A memory over the caller's words: the first 65,536 of them, where there are more.
@@ -12,40 +12,41 @@ pub struct LentWords<'a> {
 
 impl<'a> LentWords<'a> {
     pub fn new(cells: &'a mut [u32]) -> LentWords<'a>
-        ensures { (result.cells.now ≡ cells.old) × (result.cells.ghost_name ≡ cells.entry.ghost_name) }
+        ensures words { result.cells.now ≡ cells.old }
+        ensures root { result.cells.ghost_name ≡ cells.entry.ghost_name }
     {
         LentWords { cells }
+    }
+
+    /// The words that have an address.
+    fn addressed(&self) -> &[u32]
+        ensures { result.now ≡ take 65536 self.now.cells.now }
+    {
+        let end = self.cells.len().min(65536);
+        &self.cells[..end]
     }
 }
 
 impl<'a> Readable for LentWords<'a> {
     ghost words = { λ s. take 65536 s.cells.now };
 
-    ghost short = { λ s. take_short s.cells.now };
+    ghost short = { λ s. Prim.omega (arith, length-take 65536 s.cells.now) };
 
     fn size(&self) -> u32 {
-        if self.cells.len() < 65536 {
-            self.cells.len() as u32
-        } else {
-            65536
-        }
+        self.addressed().len() as u32
     }
 
     fn read(&self, address: u32) -> Result<u32, AccessFault> {
-        if address < self.size() {
-            Ok(self.cells[address as usize])
-        } else {
-            Err(AccessFault::Outside)
-        }
+        word_at(self.addressed(), address)
     }
 }
 
 impl<'a> Memory for LentWords<'a> {
-    ghost roots = { λ s. s.cells.ghost_name ∷ [] };
-
-    ghost beyond = { λ s. drop 65536 s.cells.now ∷ [] };
+    ghost kept = { λ s. record { roots = s.cells.ghost_name ∷ []; beyond = drop 65536 s.cells.now ∷ [] } };
 
     fn write(&mut self, address: u32, word: u32) -> Result<(), AccessFault> {
+        // By the index, here as in `OwnWords`: to lend a part, or to ask `get_mut`, tells a proof too
+        // little of the other words.
         if address < self.size() {
             self.cells[address as usize] = word;
             Ok(())

@@ -33,9 +33,7 @@ impl<'a, M: Memory> Readable for Loan<'a, M> {
 }
 
 impl<'a, M: Memory> Memory for Loan<'a, M> {
-    ghost roots = { λ s. s.below.ghost_name ∷ M.Memory.roots s.below.now };
-
-    ghost beyond = { λ s. M.Memory.beyond s.below.now };
+    ghost kept = { λ s. record (M.Memory.kept s.below.now) { roots = s.below.ghost_name ∷ (M.Memory.kept s.below.now).roots } };
 
     fn write(&mut self, address: u32, word: u32) -> Result<(), AccessFault> {
         self.below.write(address, word)

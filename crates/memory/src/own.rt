@@ -1,13 +1,15 @@
 ghost use Rattle.std.specs.Prelude.{◌≡◌, [], length, replicate};
-ghost use Rattle.memory.specs.Short.{exactly_short};
+ghost use Rattle.std.proofs.Common.{arith};
 
-use crate::access::AccessFault;
+use crate::access::{AccessFault, word_at};
 use crate::traits::{Memory, Readable};
 
 /// A memory of 64 words of its own.
 #[derive(Clone, Copy)]
 pub struct OwnWords {
     cells: [u32; 64],
+
+    // To the law `short` an array is a list of any length, so this says which.
     ghost full: { length cells ≡ 64 },
 }
 
@@ -23,28 +25,23 @@ impl OwnWords {
 impl Readable for OwnWords {
     ghost words = { λ s. s.cells };
 
-    ghost short = { λ s. exactly_short s.cells s.full };
+    ghost short = { λ s. Prim.omega (arith, s.full) };
 
     fn size(&self) -> u32 {
         self.cells.len() as u32
     }
 
     fn read(&self, address: u32) -> Result<u32, AccessFault> {
-        if address < 64 {
-            Ok(self.cells[address as usize])
-        } else {
-            Err(AccessFault::Outside)
-        }
+        word_at(&self.cells, address)
     }
 }
 
 impl Memory for OwnWords {
-    ghost roots = { λ _. [] };
-
-    ghost beyond = { λ _. [] };
+    ghost kept = { λ _. record { roots = []; beyond = [] } };
 
     fn write(&mut self, address: u32, word: u32) -> Result<(), AccessFault> {
-        if address < 64 {
+        // By the index: `get_mut` tells a proof too little of the other words.
+        if address < self.size() {
             self.cells[address as usize] = word;
             Ok(())
         } else {

@@ -1,7 +1,8 @@
-ghost use Rattle.std.specs.Prelude.{◌≡◌};
-ghost use Rattle.memory.specs.Short.{window_short};
+ghost use Rattle.std.specs.Prelude.{◌≡◌, ◌+◌, length, nat_le};
+ghost use Rattle.std.proofs.Common.{rules};
+ghost use Rattle.std.proofs.lemmas.Grind.{common_steps};
 ghost use Rattle.memory.specs.Words.{write_of, written};
-ghost use Rattle.memory.specs.Windows.{check_of, window_of, beyond_of, written_below};
+ghost use Rattle.memory.specs.Windows.{check_of, window_of, kept_of, written_below};
 
 use crate::access::{AccessFault, WindowFault};
 use crate::traits::{Memory, Readable};
@@ -14,13 +15,20 @@ pub struct Window<M> {
     size: u32,
 }
 
+/// Are so many addresses, from the base on, all addresses of the memory below?
+fn fits<M: Memory>(below: &M, base: u32, size: u32) -> bool
+    ensures { result ≡ nat_le (base + size) (length (M.Readable.words below.now)) }
+{
+    base.checked_add(size)
+        .is_some_and(|end| end <= below.size())
+}
+
 impl<M: Memory> Window<M> {
     /// Would a window of this base and size have words of the memory below?
     pub fn check(below: &M, base: u32, size: u32) -> Result<(), WindowFault>
         ensures { result ≡ check_of (M.Readable.words below.now) base size }
     {
-        let all = below.size();
-        if size >= 1 && base <= all && size <= all - base {
+        if size >= 1 && fits(below, base, size) {
             Ok(())
         } else {
             Err(WindowFault::Misfit)
@@ -40,11 +48,7 @@ impl<M: Memory> Window<M> {
     pub fn into_below(self) -> M
         ensures { result ≡ self.below }
     {
-        let Window {
-            below,
-            base: _,
-            size: _,
-        } = self;
+        let Window { below, .. } = self;
         below
     }
 }
@@ -52,11 +56,10 @@ impl<M: Memory> Window<M> {
 impl<M: Memory> Readable for Window<M> {
     ghost words = { λ s. window_of (M.Readable.words s.below) s.base s.size };
 
-    ghost short = { λ s. window_short (M.Readable.words s.below) s.base s.size (M.Readable.short s.below) };
+    ghost short = { λ s. Prim.search (rules, common_steps) };
 
     fn size(&self) -> u32 {
-        let all = self.below.size();
-        if self.base <= all && self.size <= all - self.base {
+        if fits(&self.below, self.base, self.size) {
             self.size
         } else {
             0
@@ -73,16 +76,13 @@ impl<M: Memory> Readable for Window<M> {
 }
 
 impl<M: Memory> Memory for Window<M> {
-    ghost roots = { λ s. M.Memory.roots s.below };
-
     // Base and size stay, and so do the words of the memory below that are not in the window.
-    ghost beyond = { λ s. beyond_of (M.Readable.words s.below) s.base s.size (M.Memory.beyond s.below) };
+    ghost kept = { λ s. kept_of (M.Readable.words s.below) s.base s.size (M.Memory.kept s.below) };
 
     fn write(&mut self, address: u32, word: u32) -> Result<(), AccessFault>
         ensures value { result ≡ write_of (window_of (M.Readable.words self.old.below) self.old.base self.old.size) address }
         ensures after { window_of (M.Readable.words self.new.below) self.new.base self.new.size ≡ written (window_of (M.Readable.words self.old.below) self.old.base self.old.size) address word }
-        ensures rooted { M.Memory.roots self.new.below ≡ M.Memory.roots self.old.below }
-        ensures beyond { beyond_of (M.Readable.words self.new.below) self.new.base self.new.size (M.Memory.beyond self.new.below) ≡ beyond_of (M.Readable.words self.old.below) self.old.base self.old.size (M.Memory.beyond self.old.below) }
+        ensures kept { kept_of (M.Readable.words self.new.below) self.new.base self.new.size (M.Memory.kept self.new.below) ≡ kept_of (M.Readable.words self.old.below) self.old.base self.old.size (M.Memory.kept self.old.below) }
         ensures below { M.Readable.words self.new.below ≡ written_below (M.Readable.words self.old.below) self.old.base self.old.size address word }
     {
         if address < self.size() {

@@ -1,11 +1,10 @@
 //! Tables of moves, and how they are tried on a pipeline.
 use crate::told::{News, ToldPacket, told_stage};
-use fit::{Fitted, fit};
-use image::{Image, read_image};
-use layout::{Layout, read_layout};
+use fit::fit;
+use image::read_image;
+use layout::read_layout;
 use memory::LentWords;
 use pipeline::Pipeline;
-use pipes::FetchPoint;
 use std::alloc::Global;
 use std::process::Abort;
 use std::test::Fail;
@@ -126,11 +125,7 @@ fn holds(
 
 /// Compares where fetch is open.
 fn fetches(rt: &impl Abort, pipeline: &Pipeline<'_>, expected: Option<u32>) {
-    let found = match pipeline.fetch() {
-        FetchPoint::Open { place } => Some(place),
-        FetchPoint::Closed => None,
-    };
-    assert_eq!(rt; found, expected, "where fetch is open");
+    assert_eq!(rt; pipeline.fetch(), expected, "where fetch is open");
 }
 
 /// Compares the word at an address.
@@ -183,8 +178,7 @@ fn built<'a>(
 ) -> Result<(), Fail> {
     let (image, _) = read_image(image)?;
     let (layout, _) = read_layout(layout)?;
-    let parts = fit::<WholeNumber>(Image { parts: image }, Layout { parts: layout })?;
-    let mut pipeline = Pipeline::build(Fitted { parts });
+    let mut pipeline = Pipeline::build(fit::<WholeNumber>(image, layout)?);
     lines_agree(rt, &mut pipeline, words, table);
     lines_agree(rt, &mut pipeline, others, later);
     Ok(())

@@ -1,16 +1,18 @@
 -- What a move list means: its moves, in their order.
-use Rattle.std.specs.Prelude.{◌≡◌, ℕ, ◌*◌, ◌≤◌, true, not, List, length, is_some}
+use Rattle.std.specs.Prelude.{ℕ, List}
 use Rattle.moves.specs.declared.kinds.Move.{Move}
-use Rattle.moves.specs.declared.parts.MoveListParts.{MoveListParts}
-use Rattle.moves.specs.Reading.{Contents, fault_in, list_of}
+use Rattle.moves.specs.declared.lists.MoveList.{MoveList}
+use Rattle.fields.specs.declared.rows.Elements.{Elements}
+use Rattle.fields.specs.Rows.{left_of}
+use Rattle.moves.specs.Reading.{Contents, list_of}
 
-abbrev pub moves_in : MoveListParts → List Move
-moves_in p = list_of p.count p.bytes.now
+abbrev pub moves_in : MoveList → List Move
+moves_in l = list_of l.count l.bytes.now
 
 -- a move list and what follows it, as reading tells them
-abbrev pub told : MoveListParts → List ℕ → Contents
-told p rest = record { moves = moves_in p; rest = rest }
+abbrev pub told : MoveList → List ℕ → Contents
+told l rest = record { moves = moves_in l; rest = rest }
 
--- the answer to each question that a move list is asked was yes
-abbrev pub WasRead : MoveListParts → Type 0
-WasRead p = (p.count ≤ 16000) × (length p.bytes.now ≡ 2 * p.count) × (not (is_some (fault_in p.count 0 p.bytes.now)) ≡ true)
+-- the moves that an iterator has still to give
+abbrev pub left : Elements MoveList → List Move
+left s = left_of moves_in s.row s.index

@@ -1,5 +1,6 @@
 -- What a move list is read as, from a list of bytes.
-use Rattle.std.specs.Prelude.{ℕ, ◌+◌, ◌*◌, cond, not, List, length, take, drop, Some, None, Ok, Err, Option, Result, ◌==◌, nat_le, nat_lt}
+use Rattle.std.specs.Prelude.{◌≡◌, ℕ, ◌+◌, ◌*◌, ◌≤◌, true, cond, not, List, length, take, drop, is_some, Some, None, Ok, Err, Option, Result, ◌==◌, nat_le, nat_lt}
+use Rattle.std.specs.Result.{result_err}
 use Rattle.fields.specs.Numbers.{byte_at, two_at, begins}
 use Rattle.fields.specs.Scanning.{first_in, entries_of}
 use Rattle.moves.specs.declared.faults.MoveFault.{MoveFault}
@@ -14,6 +15,10 @@ use Rattle.moves.specs.Decoding.{move_of}
 abbrev pub move_in : List ℕ → Result Move MoveFault
 move_in bytes = move_of (byte_at bytes 0) (byte_at bytes 1)
 
+-- why the bytes begin with no move
+abbrev pub move_wrong : List ℕ → Option MoveFault
+move_wrong bytes = result_err (move_in bytes)
+
 abbrev pub fault_at : ℕ → Result Move MoveFault → Option MoveListFault
 fault_at index (Ok m) = None
 fault_at index (Err fault) = Some (list.Move index fault)
@@ -24,6 +29,10 @@ move_fault index bytes = fault_at index (move_in bytes)
 -- the first fault of so many entries, of which the first has the index
 abbrev pub fault_in : ℕ → ℕ → List ℕ → Option MoveListFault
 fault_in n index bytes = first_in move_fault 2 n index bytes
+
+-- the answer to each question that a move list is asked was yes: of its number of moves and their bytes
+abbrev pub WasRead : ℕ → List ℕ → Type 0
+WasRead count bytes = (count ≤ 16000) × (length bytes ≡ 2 * count) × (not (is_some (fault_in count 0 bytes)) ≡ true)
 
 abbrev pub decoded : Result Move MoveFault → Move
 decoded (Ok m) = m

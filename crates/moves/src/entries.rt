@@ -1,3 +1,5 @@
+#![tactic(auto, using(crate::proofs::Scanned::list_count, crate::proofs::Scanned::list_past, crate::proofs::Scanned::list_at))]
+
 ghost use Rattle.std.specs.Prelude.{◌≡◌, ◌≤◌, length};
 ghost use Rattle.std.specs.List.{slice_get};
 ghost use Rattle.moves.specs.Meaning.{moves_in};
@@ -8,21 +10,20 @@ use crate::lists::MoveList;
 impl<'a> MoveList<'a> {
     /// How many moves there are: at most 16,000.
     pub fn count(&self) -> u16
-        ensures value { result ≡ length (moves_in self.now.parts) }
+        ensures value { result ≡ length (moves_in self.now) }
         ensures bound { result ≤ 16000 }
     {
-        self.parts.count
+        self.count
     }
 
     /// The move of this number, from 0; none at or past the count.
     pub fn get(&self, index: u16) -> Option<Move>
-        ensures { result ≡ slice_get (moves_in self.now.parts) index }
+        ensures { result ≡ slice_get (moves_in self.now) index }
     {
-        if index >= self.parts.count {
+        let bytes = self.bytes.get(2 * usize::from(index)..)?;
+        let [kind, place, ..] = bytes else {
             return None;
-        }
-        let bytes = self.parts.bytes;
-        let at = 2 * index as usize;
-        Move::decode(bytes[at], bytes[at + 1]).ok()
+        };
+        Move::decode(*kind, *place).ok()
     }
 }

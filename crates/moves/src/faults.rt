@@ -1,8 +1,8 @@
-/// Why two bytes are no move.
+/// Why two bytes are no move; its number is that of the question that decided.
 #[derive(Clone, Copy, Debug, PartialEq)]
 pub enum MoveFault {
-    Kind,
-    Place,
+    Kind = 22,
+    Place = 23,
 }
 
 /// Why bytes are no move list: the reader's refusal, which holds the decoder's whole.

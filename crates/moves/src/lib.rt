@@ -4,15 +4,15 @@
 pub use faults::{MoveFault, MoveListFault};
 pub use kinds::{Move, MoveKind};
 pub use lists::MoveList;
-pub use parts::MoveListParts;
 pub use reader::read_moves;
 
 mod decoder;
 mod entries;
 mod faults;
+mod iterating;
+mod judging;
 mod kinds;
 mod lines;
 mod lists;
-mod parts;
 mod reader;
 mod telling;

@@ -6,16 +6,15 @@ use fields::Refusal;
 
 impl MoveFault {
     /// The number of the question that decided.
+    // One cast for each enum: a trait would ask for the same line in an impl of each.
     pub fn number(self) -> u8
         ensures { result ≡ move_number self }
     {
-        match self {
-            MoveFault::Kind => 22,
-            MoveFault::Place => 23,
-        }
+        self as u8
     }
 
     /// Where the offending field lies in the move.
+    // A match, since a case has one number, and that is the question's.
     pub fn offset(self) -> u8
         ensures { result ≡ move_offset self }
     {
@@ -26,36 +25,23 @@ impl MoveFault {
     }
 }
 
-impl MoveListFault {
+impl From<MoveListFault> for Refusal {
+    ghost from_gives = { λ f r. r ≡ list_refusal f };
+
     /// The number and the byte place, which counts from the list's first byte.
-    pub fn refusal(self) -> Refusal
-        ensures { result ≡ list_refusal self }
-    {
-        match self {
-            MoveListFault::ShortHead { handed } => Refusal {
-                number: 17,
-                place: handed,
-            },
-            MoveListFault::Mark => Refusal {
-                number: 18,
-                place: 0,
-            },
-            MoveListFault::Version => Refusal {
-                number: 19,
-                place: 3,
-            },
-            MoveListFault::Count => Refusal {
-                number: 20,
-                place: 5,
-            },
-            MoveListFault::ShortMoves { handed } => Refusal {
-                number: 21,
-                place: handed,
-            },
-            MoveListFault::Move { index, fault } => Refusal {
-                number: fault.number(),
-                place: 7 + 2 * index as usize + fault.offset() as usize,
-            },
-        }
+    // A match, since cases that hold something can have no numbers of their own.
+    fn from(fault: MoveListFault) -> Refusal {
+        let (number, place) = match fault {
+            MoveListFault::ShortHead { handed } => (17, handed),
+            MoveListFault::Mark => (18, 0),
+            MoveListFault::Version => (19, 3),
+            MoveListFault::Count => (20, 5),
+            MoveListFault::ShortMoves { handed } => (21, handed),
+            MoveListFault::Move { index, fault } => (
+                fault.number(),
+                7 + 2 * usize::from(index) + usize::from(fault.offset()),
+            ),
+        };
+        Refusal { number, place }
     }
 }

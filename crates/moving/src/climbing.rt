@@ -1,31 +1,27 @@
-ghost use Rattle.std.specs.Prelude.{◌≡◌, ◌+◌, ◌<◌, Some};
+ghost use Rattle.std.specs.Prelude.{◌≡◌, Some};
+ghost use Rattle.stepper.specs.View.{world_of};
 ghost use Rattle.packets.specs.Entering.{entering, guess_of};
-ghost use Rattle.packets.specs.Stages.{executing, met, result_in};
+ghost use Rattle.packets.specs.Stages.{met, result_in};
 ghost use Rattle.pipes.specs.Questions.{stage_at};
-ghost use Rattle.pipes.specs.Moving.{with_stage, with_fetch, fetch_behind, closes, raised, leaving_effect};
+ghost use Rattle.pipes.specs.Moving.{with_stage, with_fetch, fetch_behind, fetched_from, closes, leaving_effect, retired_from};
 
-use effect::{Effect, Fetched};
+use effect::{Effect, Fetched, Retirement};
+use image::Image;
 use instruction::Instruction;
-use memory::Readable;
-use packets::{Packet, PacketState, Stage, Standing};
-use pipes::{FetchPoint, Pipes};
+use memory::{Memory, Readable};
+use packets::{Packet, PacketState, Stage};
+use pipes::Pipes;
 use unit::Unit;
 
 /// Does fetch close behind this: a halt, or a place past the end?
 fn closes(instruction: Option<Instruction>) -> bool
     ensures { result ≡ closes instruction }
 {
-    let Some(instruction) = instruction else {
-        return true;
-    };
-    match instruction {
-        Instruction::Halt => true,
-        _ => false,
-    }
+    matches!(instruction, None | Some(Instruction::Halt))
 }
 
-/// FETCH: a packet for what was fetched enters stage 0 and meets the result there.
-pub(crate) fn enter<U: Unit, R: Readable>(
+/// A packet for what was fetched enters stage 0 and meets the result there.
+fn enter<U: Unit, R: Readable>(
     pipes: &mut Pipes,
     fetched: Fetched,
     handler: u32,
@@ -35,47 +31,60 @@ pub(crate) fn enter<U: Unit, R: Readable>(
     ensures { pipes.new ≡ with_fetch (with_stage pipes.old 0 (met (Some (entering (U.Unit.table unit.now) (R.Readable.words memory.now) handler fetched)) (result_in (stage_at pipes.old 0)))) (fetch_behind fetched) }
 {
     let packet = Packet::entering(fetched, handler, unit, memory);
-    let guess = packet.guess;
     pipes.stages[0].enter(Some(packet));
     pipes.fetch = if closes(fetched.instruction) {
-        FetchPoint::Closed
+        None
     } else {
-        FetchPoint::Open { place: guess }
+        Some(packet.guess)
     };
 }
 
-/// RAISE: the packet goes up and meets the result there.
-pub(crate) fn raise(pipes: &mut Pipes, stage: usize)
-    requires { stage + 1 < 16 }
-    ensures { pipes.new ≡ raised pipes.old stage }
-{
-    let packet = pipes.stages[stage].leave();
-    pipes.stages[stage + 1].enter(packet);
-}
-
-/// EXECUTE: the packet's effect is worked out.
-pub(crate) fn execute<U: Unit, R: Readable>(
+/// FETCH, from where fetch is open.
+pub(crate) fn fetch<U: Unit, R: Readable>(
     pipes: &mut Pipes,
-    stage: usize,
-    handler: u32,
+    image: &Image<'_>,
     unit: &U,
     memory: &R,
 )
-    requires { stage < 16 }
-    ensures { pipes.new ≡ with_stage pipes.old stage (executing (U.Unit.table unit.now) (R.Readable.words memory.now) handler (stage_at pipes.old stage)) }
+    ensures { pipes.new ≡ fetched_from (world_of (U.Unit.table unit.now) image.now) (R.Readable.words memory.now) pipes.old pipes.old.fetch }
 {
-    pipes.stages[stage].execute(handler, unit, memory);
+    if let Some(place) = pipes.fetch {
+        let fetched = Fetched {
+            place,
+            instruction: image.fetch(place),
+        };
+        enter(pipes, fetched, u32::from(image.handler()), unit, memory);
+    }
 }
 
 /// What a packet does as it retires: a killed one does nothing.
-pub(crate) fn leaving_effect(packet: Packet) -> Option<Effect>
+fn leaving_effect(packet: Packet) -> Option<Effect>
     ensures { result ≡ leaving_effect packet }
 {
-    if let Standing::Killed = packet.standing {
+    if !packet.is_live() {
         return None;
     }
     match packet.state {
         PacketState::Waiting => None,
         PacketState::Executed { effect, .. } => Some(effect),
     }
+}
+
+/// RETIRE: a live packet that has left writes what it carries.
+pub(crate) fn retire<M: Memory>(
+    pipes: &mut Pipes,
+    leaving: Option<Packet>,
+    memory: &mut M,
+) -> Option<Retirement>
+    ensures left { record { pipes = pipes.new; words = M.Readable.words memory.new; retirement = result } ≡ retired_from pipes.old (M.Readable.words memory.old) leaving }
+    ensures kept { M.Memory.kept memory.new ≡ M.Memory.kept memory.old }
+{
+    let packet = leaving?;
+    let effect = leaving_effect(packet)?;
+    effect.action.apply(&mut pipes.registers, memory);
+    pipes.halted = effect.action.halts() || pipes.halted;
+    Some(Retirement {
+        place: packet.fetched.place,
+        action: effect.action,
+    })
 }

@@ -1,7 +1,7 @@
 //! A move, on plain pipes.
 #![tactic(auto)]
 
-pub use making::make_move;
+pub use making::{make, make_move};
 
 mod accepting;
 mod climbing;

@@ -1,5 +1,6 @@
 ghost use Rattle.std.specs.Prelude.{◌≡◌};
 ghost use Rattle.layout.specs.Meaning.{sets_in};
+ghost use Rattle.moves.specs.Decoding.{number_of};
 ghost use Rattle.stepper.specs.View.{world_of};
 ghost use Rattle.pipes.specs.Moving.{moved};
 
@@ -9,12 +10,33 @@ use effect::Retirement;
 use image::Image;
 use layout::Layout;
 use memory::{Memory, Readable};
-use moves::MoveKind;
+use moves::{Move, MoveKind};
 use pipes::{MoveRefusal, Pipes};
 use unit::Unit;
 
 /// Makes a move, or turns it away with everything as it stood. Answers a record exactly where a live
 /// packet retired.
+// Image and layout are lent beside the pipes: a move changes the pipes alone, and the pipeline holds all
+// three with its invariants.
+pub fn make<U: Unit, M: Memory>(
+    pipes: &mut Pipes,
+    image: &Image<'_>,
+    layout: &Layout<'_>,
+    next: Move,
+    unit: &U,
+    memory: &mut M,
+) -> Result<Option<Retirement>, MoveRefusal>
+    ensures made { record { answer = result; pipes = pipes.new; words = M.Readable.words memory.new } ≡ moved (world_of (U.Unit.table unit.now) image.now) (sets_in layout.now) pipes.old (M.Readable.words memory.old) (number_of next.kind) next.place }
+    ensures kept { M.Memory.kept memory.new ≡ M.Memory.kept memory.old }
+{
+    if pipes.halted {
+        return Err(MoveRefusal::Halted);
+    }
+    ask(pipes, layout, next)?;
+    Ok(accept(pipes, image, layout, next, unit, memory))
+}
+
+/// The same for any two numbers as kind and place.
 pub fn make_move<U: Unit, M: Memory>(
     pipes: &mut Pipes,
     image: &Image<'_>,
@@ -24,20 +46,12 @@ pub fn make_move<U: Unit, M: Memory>(
     unit: &U,
     memory: &mut M,
 ) -> Result<Option<Retirement>, MoveRefusal>
-    ensures value { result ≡ (moved (world_of (U.Unit.table unit.now) image.now) (sets_in layout.now.parts) pipes.old (M.Readable.words memory.old) kind place).answer }
-    ensures pipes { pipes.new ≡ (moved (world_of (U.Unit.table unit.now) image.now) (sets_in layout.now.parts) pipes.old (M.Readable.words memory.old) kind place).pipes }
-    ensures words { M.Readable.words memory.new ≡ (moved (world_of (U.Unit.table unit.now) image.now) (sets_in layout.now.parts) pipes.old (M.Readable.words memory.old) kind place).words }
-    ensures rooted { M.Memory.roots memory.new ≡ M.Memory.roots memory.old }
-    ensures beyond { M.Memory.beyond memory.new ≡ M.Memory.beyond memory.old }
+    ensures made { record { answer = result; pipes = pipes.new; words = M.Readable.words memory.new } ≡ moved (world_of (U.Unit.table unit.now) image.now) (sets_in layout.now) pipes.old (M.Readable.words memory.old) kind place }
+    ensures kept { M.Memory.kept memory.new ≡ M.Memory.kept memory.old }
 {
-    if pipes.halted {
-        return Err(MoveRefusal::Halted);
-    }
-    let Some(kind) = MoveKind::from_number(kind) else {
-        return Err(MoveRefusal::UnknownKind);
-    };
-    match ask(pipes, layout, kind, place as usize) {
-        Some(refusal) => Err(refusal),
-        None => Ok(accept(pipes, image, layout, kind, place, unit, memory)),
+    match MoveKind::try_from(kind) {
+        Ok(kind) => make(pipes, image, layout, Move { kind, place }, unit, memory),
+        Err(_) if pipes.halted => Err(MoveRefusal::Halted),
+        Err(_) => Err(MoveRefusal::UnknownKind),
     }
 }

@@ -1,13 +1,13 @@
 -- The packet that enters for what was fetched.
-use Rattle.std.specs.Prelude.{ℕ, Bool, true, false, cond, List, Some, None, Option}
+use Rattle.std.specs.Prelude.{ℕ, Bool, true, false, if◌then◌else◌, List, Some, None, Option}
 use Rattle.instruction.specs.declared.instructions.Instruction.{Instruction}
 use Rattle.instruction.specs.declared.instructions.Instruction.TheVariants.{Halt, Jump, Set, BranchZero, JumpRegister, Load, Store, Compute}
 use Rattle.instruction.specs.declared.instructions.Operand.{Operand}
 use Rattle.instruction.specs.declared.instructions.Operand.TheVariants as operand
+use Rattle.instruction.specs.Operands.{operands_at}
 use Rattle.effect.specs.declared.actions.Fetched.{Fetched}
 use Rattle.effect.specs.declared.actions.Sources.{Sources}
 use Rattle.effect.specs.Effects.{Table, following, effect_of}
-use Rattle.stepper.specs.Machine.{operands_at}
 use Rattle.packets.specs.declared.bindings.Source.{Source}
 use Rattle.packets.specs.declared.bindings.Source.TheVariants.{Absent, Literal, Bound}
 use Rattle.packets.specs.declared.packets.Packet.{Packet}
@@ -22,7 +22,7 @@ guess_for place None = following place
 guess_for place (Some Halt) = following place
 guess_for place (Some (Jump target)) = target
 guess_for place (Some (Set destination word)) = following place
-guess_for place (Some (BranchZero hint tested target)) = cond hint target (following place)
+guess_for place (Some (BranchZero hint tested target)) = if hint then target else following place
 guess_for place (Some (JumpRegister target guess)) = guess
 guess_for place (Some (Load destination base offset)) = following place
 guess_for place (Some (Store base stored offset)) = following place
@@ -55,7 +55,7 @@ no_words = record { first = 0; second = 0 }
 -- what needs no stage enters executed
 module _ (table : Table) (words : List ℕ) (handler : ℕ) (fetched : Fetched) where
   abbrev pub state_for : PacketState
-  state_for = cond (at_once fetched.instruction) (executed_as (guess_of fetched) (effect_of table words handler fetched no_words)) Waiting
+  state_for = if at_once fetched.instruction then executed_as (guess_of fetched) (effect_of table words handler fetched no_words) else Waiting
 
   abbrev pub entering : Packet
   entering = record {

@@ -1,5 +1,5 @@
 -- What a packet and a result do to each other where they meet.
-use Rattle.std.specs.Prelude.{ℕ, Bool, true, false, cond, not, ◌&&◌, Some, None, Option, ◌==◌}
+use Rattle.std.specs.Prelude.{ℕ, Bool, true, false, if◌then◌else◌, not, ◌&&◌, Some, None, Option, ◌==◌}
 use Rattle.instruction.specs.declared.numbers.Register.{Register}
 use Rattle.instruction.specs.declared.instructions.Instruction.{Instruction}
 use Rattle.instruction.specs.declared.instructions.Instruction.TheVariants as instruction
@@ -19,7 +19,7 @@ use Rattle.packets.specs.Packets.{same, killed}
 
 -- a source that waits for the register takes the word
 abbrev pub bound : Register → ℕ → Binding → Binding
-bound register word b = cond (not b.valid && same b.register register) (record { register = b.register; word = word; valid = true }) b
+bound register word b = if not b.valid && same b.register register then record b { word = word; valid = true } else b
 
 abbrev pub garnered : Register → ℕ → Source → Source
 garnered register word Absent = Absent
@@ -27,7 +27,7 @@ garnered register word (Literal w) = Literal w
 garnered register word (Bound b) = Bound (bound register word b)
 
 abbrev pub garnering : Register → ℕ → Packet → Packet
-garnering register word p = record { fetched = p.fetched; guess = p.guess; first = garnered register word p.first; second = garnered register word p.second; state = p.state; standing = p.standing }
+garnering register word p = record p { first = garnered register word p.first; second = garnered register word p.second }
 
 -- the register that an instruction will write if it does not trap
 abbrev pub destination_of : Option Instruction → Option Register
@@ -48,14 +48,14 @@ names (Some destination) register = same destination register
 -- the word of a register behind an action, where it was this word before: a trap writes r15 alone
 abbrev pub behind : Action → Register → ℕ → ℕ
 behind Nothing register word = word
-behind (SetRegister destination written) register word = cond (same destination register) written word
+behind (SetRegister destination written) register word = if same destination register then written else word
 behind (StoreWord address written) register word = word
-behind (Trap written) register word = cond (15 == register.number) written word
+behind (Trap written) register word = if 15 == register.number then written else word
 behind Halt register word = word
 
 -- the value that goes on below a packet: what a waiting one will write itself vanishes
 abbrev pub passed_by : Option Instruction → Register → ℕ → PacketState → Option PipeResult
-passed_by found register word Waiting = cond (names (destination_of found) register) None (Some (result.Value register word))
+passed_by found register word Waiting = if names (destination_of found) register then None else Some (result.Value register word)
 passed_by found register word (Executed effect owed) = Some (result.Value register (behind effect.action register word))
 
 abbrev pub passed : Packet → Register → ℕ → Option PipeResult

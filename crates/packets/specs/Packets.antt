@@ -1,5 +1,5 @@
 -- What a packet has, lacks, owes and writes.
-use Rattle.std.specs.Prelude.{ℕ, Bool, true, false, cond, not, ◌&&◌, ◌||◌, is_some, Some, None, Option, ◌==◌}
+use Rattle.std.specs.Prelude.{ℕ, Bool, true, false, if◌then◌else◌, not, ◌&&◌, ◌||◌, is_some, Some, None, Option, ◌==◌}
 use Rattle.instruction.specs.declared.numbers.Register.{Register}
 use Rattle.effect.specs.declared.actions.Action.{Action}
 use Rattle.effect.specs.declared.actions.Action.TheVariants.{Nothing, SetRegister, StoreWord, Trap, Halt}
@@ -39,7 +39,7 @@ sources_in p = record { first = word_in p.first; second = word_in p.second }
 -- What an effect owes the packets behind: the value of the register that it writes; where the next place
 -- is not the one guessed, a wrong-branch; after a trap always a trap, whatever was guessed.
 abbrev pub owed_by : ℕ → ℕ → Action → Option PipeResult
-owed_by guess next Nothing = cond (next == guess) None (Some (result.WrongBranch next))
+owed_by guess next Nothing = if next == guess then None else Some (result.WrongBranch next)
 owed_by guess next (SetRegister register word) = Some (result.Value register word)
 owed_by guess next (StoreWord address word) = None
 owed_by guess next (Trap word) = Some (result.Trap next)
@@ -80,10 +80,10 @@ abbrev pub may_pass : Packet → Bool
 may_pass p = not (is_live p.standing) || is_executed p.state
 
 abbrev pub with_state : Packet → PacketState → Packet
-with_state p state = record { fetched = p.fetched; guess = p.guess; first = p.first; second = p.second; state = state; standing = p.standing }
+with_state p state = record p { state = state }
 
 abbrev pub killed : Packet → Packet
-killed p = record { fetched = p.fetched; guess = p.guess; first = p.first; second = p.second; state = p.state; standing = Killed }
+killed p = record p { standing = Killed }
 
 -- what is owed is owed no more
 abbrev settled_state : PacketState → PacketState

@@ -13,15 +13,11 @@ use unit::Unit;
 fn guess(fetched: Fetched) -> u32
     ensures { result ≡ guess_of fetched }
 {
-    let following = fetched.place.wrapping_add(1);
-    let Some(instruction) = fetched.instruction else {
-        return following;
-    };
-    match instruction {
-        Instruction::Jump { target } => target,
-        Instruction::JumpRegister { guess, .. } => guess,
-        Instruction::BranchZero { hint, target, .. } if hint => target,
-        _ => following,
+    match fetched.instruction {
+        Some(Instruction::Jump { target }) => target,
+        Some(Instruction::JumpRegister { guess, .. }) => guess,
+        Some(Instruction::BranchZero { hint, target, .. }) if hint => target,
+        _ => fetched.place.wrapping_add(1),
     }
 }
 
@@ -29,14 +25,10 @@ fn guess(fetched: Fetched) -> u32
 fn at_once(instruction: Option<Instruction>) -> bool
     ensures { result ≡ at_once instruction }
 {
-    let Some(instruction) = instruction else {
-        return true;
-    };
-    match instruction {
-        Instruction::Halt => true,
-        Instruction::Jump { .. } => true,
-        _ => false,
-    }
+    matches!(
+        instruction,
+        None | Some(Instruction::Halt | Instruction::Jump { .. })
+    )
 }
 
 impl Source {
@@ -44,12 +36,10 @@ impl Source {
     fn awaiting(operand: Option<Operand>) -> Source
         ensures { result ≡ source_for operand }
     {
-        let Some(operand) = operand else {
-            return Source::Absent;
-        };
         match operand {
-            Operand::Literal(word) => Source::Literal(word),
-            Operand::Register(register) => Source::Bound(Binding {
+            None => Source::Absent,
+            Some(Operand::Literal(word)) => Source::Literal(word),
+            Some(Operand::Register(register)) => Source::Bound(Binding {
                 register,
                 word: 0,
                 valid: false,
@@ -60,6 +50,7 @@ impl Source {
 
 impl Packet {
     /// The packet for what was fetched. What needs no stage enters executed.
+    // Unit and memory are the caller's, so each call that works out an effect takes both.
     pub fn entering<U: Unit, R: Readable>(
         fetched: Fetched,
         handler: u32,
@@ -69,13 +60,7 @@ impl Packet {
         ensures { result ≡ entering (U.Unit.table unit.now) (R.Readable.words memory.now) handler fetched }
     {
         let guess = guess(fetched);
-        let operands = match fetched.instruction {
-            Some(instruction) => instruction.operands(),
-            None => Operands {
-                first: None,
-                second: None,
-            },
-        };
+        let operands = Operands::of(fetched.instruction);
         let state = if at_once(fetched.instruction) {
             let sources = Sources {
                 first: 0,

@@ -1,5 +1,5 @@
 ghost use Rattle.std.specs.Prelude.{◌≡◌, Some};
-ghost use Rattle.packets.specs.Packets.{same, killed};
+ghost use Rattle.packets.specs.Packets.{killed};
 ghost use Rattle.packets.specs.Meeting.{bound, garnered, garnering, destination_of, names, behind, passed, met_packet, met_result};
 ghost use Rattle.packets.specs.Stages.{staged, met, meeting};
 
@@ -11,24 +11,16 @@ use crate::stages::Stage;
 use effect::Action;
 use instruction::{Instruction, Register};
 
-/// Do two names mean one register?
-fn same(register: Register, other: Register) -> bool
-    ensures { result ≡ same register other }
-{
-    register.number() == other.number()
-}
-
 /// Does an instruction write this register, if it does not trap?
 fn writes(instruction: Option<Instruction>, register: Register) -> bool
     ensures { result ≡ names (destination_of instruction) register }
 {
-    let Some(instruction) = instruction else {
-        return false;
-    };
     match instruction {
-        Instruction::Set { destination, .. } => same(destination, register),
-        Instruction::Load { destination, .. } => same(destination, register),
-        Instruction::Compute { destination, .. } => same(destination, register),
+        Some(
+            Instruction::Set { destination, .. }
+            | Instruction::Load { destination, .. }
+            | Instruction::Compute { destination, .. },
+        ) => destination == register,
         _ => false,
     }
 }
@@ -41,7 +33,13 @@ fn behind(action: Action, register: Register, word: u32) -> u32
         Action::SetRegister {
             register: destination,
             word: written,
-        } if same(destination, register) => written,
+        } => {
+            if destination == register {
+                written
+            } else {
+                word
+            }
+        }
         Action::Trap { word: written } if register.number() == 15 => written,
         _ => word,
     }
@@ -52,7 +50,7 @@ impl Binding {
     fn garner(&mut self, register: Register, word: u32)
         ensures { self.new ≡ bound register word self.old }
     {
-        if !self.valid && same(self.register, register) {
+        if !self.valid && self.register == register {
             self.word = word;
             self.valid = true;
         }
@@ -63,10 +61,8 @@ impl Source {
     fn garner(&mut self, register: Register, word: u32)
         ensures { self.new ≡ garnered register word self.old }
     {
-        if let Source::Bound(binding) = *self {
-            let mut binding = binding;
+        if let Source::Bound(binding) = self {
             binding.garner(register, word);
-            *self = Source::Bound(binding);
         }
     }
 }
@@ -105,7 +101,7 @@ impl Packet {
         ensures packet { self.new ≡ met_packet self.old arriving }
         ensures value { result ≡ met_result self.old arriving }
     {
-        if let Standing::Killed = self.standing {
+        if !self.is_live() {
             return Some(arriving);
         }
         match arriving {

@@ -3,6 +3,7 @@ use crate::results::PipeResult;
 use effect::{Effect, Fetched};
 
 /// How far a packet has come: executed, it carries its effect and what it still owes.
+// No `Option` of the two: that a packet waits is a state, and moves ask for it by its name.
 #[derive(Clone, Copy)]
 pub enum PacketState {
     Waiting,

@@ -12,8 +12,7 @@ impl Source {
         ensures { result ≡ valid self }
     {
         match self {
-            Source::Absent => true,
-            Source::Literal(_) => true,
+            Source::Absent | Source::Literal(_) => true,
             Source::Bound(binding) => binding.valid,
         }
     }
@@ -60,19 +59,13 @@ impl Packet {
     pub fn is_live(&self) -> bool
         ensures { result ≡ is_live self.now.standing }
     {
-        match self.standing {
-            Standing::Live => true,
-            Standing::Killed => false,
-        }
+        matches!(self.standing, Standing::Live)
     }
 
     pub fn is_executed(&self) -> bool
         ensures { result ≡ is_executed self.now.state }
     {
-        match self.state {
-            PacketState::Waiting => false,
-            PacketState::Executed { .. } => true,
-        }
+        matches!(self.state, PacketState::Executed { .. })
     }
 
     /// May it be executed, as far as its own state goes?

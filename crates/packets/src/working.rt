@@ -15,16 +15,14 @@ fn owed(guess: u32, effect: Effect) -> Option<PipeResult>
     ensures { result ≡ owed_by guess effect.next effect.action }
 {
     match effect.action {
-        Action::Nothing if effect.next == guess => None,
-        Action::Nothing => Some(PipeResult::WrongBranch {
+        Action::Nothing if effect.next != guess => Some(PipeResult::WrongBranch {
             target: effect.next,
         }),
         Action::SetRegister { register, word } => Some(PipeResult::Value { register, word }),
-        Action::StoreWord { .. } => None,
         Action::Trap { .. } => Some(PipeResult::Trap {
             handler: effect.next,
         }),
-        Action::Halt => None,
+        Action::Nothing | Action::StoreWord { .. } | Action::Halt => None,
     }
 }
 
@@ -53,11 +51,8 @@ impl Packet {
     fn pay(&mut self)
         ensures { self.new ≡ paid self.old }
     {
-        match self.state {
-            PacketState::Waiting => {}
-            PacketState::Executed { effect, .. } => {
-                self.state = PacketState::Executed { effect, owed: None };
-            }
+        if let PacketState::Executed { owed, .. } = &mut self.state {
+            *owed = None;
         }
     }
 }

@@ -1,12 +1,12 @@
 //! Layouts: the six bytes that they begin with, the sets, and what a stage can execute.
 use crate::told::{Told, told, two_stages};
-use layout::{Layout, read_layout};
+use layout::read_layout;
 use std::process::Abort;
 
 fn refusal_of(bytes: &[u8]) -> Told {
     match read_layout(bytes) {
         Ok(_) => None,
-        Err(fault) => told(fault.refusal()),
+        Err(fault) => told(fault.into()),
     }
 }
 
@@ -22,9 +22,7 @@ fn sixteen(at: usize, byte: u8) -> [u8; 70] {
 /// A head, and sixteen empty sets.
 fn headed(head: [u8; 6]) -> [u8; 70] {
     let mut bytes = [0; 70];
-    for at in 0..6 {
-        bytes[at] = head[at];
-    }
+    bytes[..6].copy_from_slice(&head);
     bytes
 }
 
@@ -118,8 +116,7 @@ type Abilities = (usize, [bool; 5], Option<usize>);
 
 /// What the layout tells of the operation, and how many bytes follow it.
 fn able(bytes: &[u8], operation: u8) -> Option<(Abilities, usize)> {
-    let (parts, rest) = read_layout(bytes).ok()?;
-    let layout = Layout { parts };
+    let (layout, rest) = read_layout(bytes).ok()?;
     let stages = [
         layout.able(0, operation),
         layout.able(1, operation),

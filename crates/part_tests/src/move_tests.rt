@@ -1,6 +1,6 @@
 //! Move lists: the seven bytes that they begin with, the moves, and what is got from a list.
 use crate::told::{Told, add, put, told};
-use moves::{MoveList, read_moves};
+use moves::read_moves;
 use std::alloc::{AllocError, Global};
 use std::process::Abort;
 use std::test::Fail;
@@ -8,16 +8,14 @@ use std::test::Fail;
 fn refusal_of(bytes: &[u8]) -> Told {
     match read_moves(bytes) {
         Ok(_) => None,
-        Err(fault) => told(fault.refusal()),
+        Err(fault) => told(fault.into()),
     }
 }
 
 /// The list of two moves, which begin at bytes 7 and 9.
 fn two(moves: [u8; 4]) -> [u8; 11] {
     let mut bytes = *b"CFM\0\x01\0\x02\0\0\0\0";
-    for at in 0..4 {
-        bytes[7 + at] = moves[at];
-    }
+    bytes[7..].copy_from_slice(&moves);
     bytes
 }
 
@@ -201,12 +199,10 @@ fn lower_moves_first(rt: HostRuntime) {
 
 /// The list's count, the kind's number and the place of a move, and how many bytes follow.
 fn got(bytes: &[u8], index: u16) -> Option<(u16, Option<(u8, u8)>, usize)> {
-    let (parts, rest) = read_moves(bytes).ok()?;
-    let list = MoveList { parts };
-    let found = match list.get(index) {
-        Some(found) => Some((found.kind.number(), found.place)),
-        None => None,
-    };
+    let (list, rest) = read_moves(bytes).ok()?;
+    let found = list
+        .get(index)
+        .map(|found| (found.kind.number(), found.place));
     Some((list.count(), found, rest.len()))
 }
 

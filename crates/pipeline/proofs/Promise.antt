@@ -13,11 +13,11 @@ use Rattle.pipeline.proofs.Sounds.{succession_sound}
 
 pub never_parted : (image : Image) (layout : Layout) → NeverParted image layout
 never_parted image layout other table table' alike =
-    agreement table table' (program image.parts) image.parts.head.handler alike (sets_in layout.parts) (sets_in other.parts) (read_laid layout.parts layout.read) (read_laid other.parts other.read)
+    agreement table table' (program image) image.head.handler alike (sets_in layout) (sets_in other) (read_laid layout) (read_laid other)
 
-pub always_drains : (image : Image) (layout : Layout) → All (placed (sets_in layout.parts)) (program image.parts) → AlwaysDrains image layout
+pub always_drains : (image : Image) (layout : Layout) → All (placed (sets_in layout)) (program image) → AlwaysDrains image layout
 always_drains image layout fit table first P words rs s runs =
     let W = world_of table image in
-    let sets = sets_in layout.parts in
-    let laid = read_laid layout.parts layout.read in
+    let sets = sets_in layout in
+    let laid = read_laid layout in
     (drains W sets P words fit laid.low laid.high (succession_sound W sets fit laid s) runs, drains_next W sets laid first P words rs s runs)

@@ -24,8 +24,8 @@ abbrev pub NeverParted : Image → Layout → Type 0
 NeverParted image layout =
     (other : Layout) (table table' : Table) → Alike table table' →
     (first : List ℕ) (P P' : Pipes) (words words' : List ℕ) (rs rs' : List Retirement) →
-    Succession (world_of table image) (sets_in layout.parts) first P words rs →
-    Succession (world_of table' image) (sets_in other.parts) first P' words' rs' →
+    Succession (world_of table image) (sets_in layout) first P words rs →
+    Succession (world_of table' image) (sets_in other) first P' words' rs' →
     length rs ≡ length rs' →
     Equal P P' words words' rs rs' × Sequential (world_of table image) first P words rs × Sequential (world_of table' image) first P' words' rs'
 
@@ -35,9 +35,9 @@ NeverParted image layout =
 abbrev pub AlwaysDrains : Image → Layout → Type 0
 AlwaysDrains image layout =
     (table : Table) (first : List ℕ) (P : Pipes) (words : List ℕ) (rs : List Retirement) →
-    Succession (world_of table image) (sets_in layout.parts) first P words rs → P.halted ≡ false →
-    Ended (world_of table image) (sets_in layout.parts) P words
-    × ((room : ℕ) → bound (length (sets_in layout.parts)) ≤ room →
+    Succession (world_of table image) (sets_in layout) first P words rs → P.halted ≡ false →
+    Ended (world_of table image) (sets_in layout) P words
+    × ((room : ℕ) → bound (length (sets_in layout)) ≤ room →
     (answer : Result Drain DrainRefusal) (moves : List Move) (P' : Pipes) (words' : List ℕ) →
-    Drains (world_of table image) (sets_in layout.parts) P words moves P' words' room answer →
-    DrawsNext (world_of table image) (sets_in layout.parts) first P words rs moves P' words' answer)
+    Drains (world_of table image) (sets_in layout) P words moves P' words' room answer →
+    DrawsNext (world_of table image) (sets_in layout) first P words rs moves P' words' answer)

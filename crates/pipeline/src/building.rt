@@ -5,32 +5,31 @@ ghost use Rattle.pipeline.specs.Theorem.{NeverParted, AlwaysDrains};
 ghost use Rattle.pipeline.specs.Views.{slot_of};
 
 use crate::pipelines::Pipeline;
-use fit::{Fitted, FittedParts};
+use fit::Fitted;
 use image::Image;
 use instruction::Register;
 use layout::Layout;
 use packets::Stage;
-use pipes::{FetchPoint, Pipes};
+use pipes::Pipes;
 
 impl<'a> Pipeline<'a> {
     /// The fresh pipeline of a fitted pair: empty slots, fetch open at 0, registers 0, not halted. No
     /// calls part it from another pipeline of the image, and it can always be drained.
     pub fn build(fitted: Fitted<'a>) -> Pipeline<'a>
-        ensures image { result.image.parts ≡ fitted.entry.parts.image }
-        ensures layout { result.layout.parts ≡ fitted.entry.parts.layout }
+        ensures image { result.image ≡ fitted.entry.image }
+        ensures layout { result.layout ≡ fitted.entry.layout }
         ensures pipes { result.pipes ≡ fresh }
         ensures parted { NeverParted result.image result.layout }
         ensures drains { AlwaysDrains result.image result.layout }
     {
-        let Fitted { parts } = fitted;
-        let FittedParts { image, layout } = parts;
+        let Fitted { image, layout } = fitted;
         Pipeline {
-            image: Image { parts: image },
-            layout: Layout { parts: layout },
+            image,
+            layout,
             pipes: Pipes {
                 stages: [Stage::vacant(); 16],
                 registers: [0; 16],
-                fetch: FetchPoint::Open { place: 0 },
+                fetch: Some(0),
                 halted: false,
             },
         }
@@ -63,8 +62,8 @@ impl<'a> Pipeline<'a> {
         self.pipes.registers[register.index()]
     }
 
-    /// Where the next packet comes from.
-    pub fn fetch(&self) -> FetchPoint
+    /// The place at which fetch is open; none where it is closed.
+    pub fn fetch(&self) -> Option<u32>
         ensures { result ≡ self.now.pipes.fetch }
     {
         self.pipes.fetch
@@ -72,7 +71,7 @@ impl<'a> Pipeline<'a> {
 
     /// How many stages it has: 2 to 16.
     pub fn stages(&self) -> usize
-        ensures value { result ≡ length (sets_in self.now.layout.parts) }
+        ensures value { result ≡ length (sets_in self.now.layout) }
         ensures low { 2 ≤ result }
         ensures high { result ≤ 16 }
     {
@@ -81,12 +80,8 @@ impl<'a> Pipeline<'a> {
 
     /// What stands in a stage; none at or past the top.
     pub fn stage(&self, stage: usize) -> Option<Stage>
-        ensures { result ≡ slot_of (sets_in self.now.layout.parts) self.now.pipes stage }
+        ensures { result ≡ slot_of (sets_in self.now.layout) self.now.pipes stage }
     {
-        if stage < self.stages() {
-            Some(self.pipes.stages[stage])
-        } else {
-            None
-        }
+        self.pipes.stages[..self.stages()].get(stage).copied()
     }
 }

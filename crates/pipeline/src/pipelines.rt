@@ -15,6 +15,6 @@ pub struct Pipeline<'a> {
     pub(crate) image: Image<'a>,
     pub(crate) layout: Layout<'a>,
     pub(crate) pipes: Pipes,
-    ghost fits: { All (placed (sets_in layout.parts)) (program image.parts) },
-    ghost sound: { Sound (sets_in layout.parts) pipes },
+    ghost fits: { All (placed (sets_in layout)) (program image) },
+    ghost sound: { Sound (sets_in layout) pipes },
 }

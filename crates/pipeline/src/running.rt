@@ -1,39 +1,26 @@
-ghost use Rattle.std.specs.Prelude.{◌≡◌, ◌+◌, ◌-◌, ◌<◌, ◌≤◌, length};
-ghost use Rattle.layout.specs.Meaning.{sets_in};
+ghost use Rattle.std.specs.Prelude.{◌≡◌, ◌+◌, ◌<◌, ◌≤◌, length};
 ghost use Rattle.moves.specs.Meaning.{moves_in};
 ghost use Rattle.bounded_log.specs.Entries.{logged};
-ghost use Rattle.stepper.specs.View.{world_of};
-ghost use Rattle.pipes.specs.Running.{retires, retirements, figures_after, places_after, counted_after, run_of};
+ghost use Rattle.bounded_log.specs.Room.{room};
+ghost use Rattle.pipes.specs.Running.{retirements, figures_after, places_after, counted_after};
+ghost use Rattle.pipeline.specs.Calls.{list_run};
 
 use crate::pipelines::Pipeline;
 use bounded_log::Log;
 use effect::Retirement;
 use memory::{Memory, Readable};
-use moves::{Move, MoveKind, MoveList};
+use moves::{MoveKind, MoveList};
 use pipes::{MoveRefusal, RunFigures, RunRefusal};
 use unit::Unit;
 
-/// 1 for a retirement, 0 for any other move.
-fn retires(next: Move) -> usize
-    ensures value { result ≡ retires next }
-    ensures few { result ≤ 1 }
-{
-    if next.kind.number() == 7 { 1 } else { 0 }
-}
-
 /// How many moves of a list are retirements.
 fn retirements(moves: &MoveList<'_>) -> usize
-    ensures value { result ≡ retirements (moves_in moves.now.parts) }
-    ensures few { result ≤ 16000 }
+    ensures { result ≡ retirements (moves_in moves.now) }
 {
-    let mut count = 0usize;
-    for index in 0..moves.count() {
-        let Some(next) = moves.get(index) else {
-            return unreachable();
-        };
-        count += retires(next);
-    }
-    count
+    moves
+        .iter()
+        .filter(|next| matches!(next.kind, MoveKind::Retire))
+        .count()
 }
 
 /// Counts the answer to a move, and logs the record of a live retirement.
@@ -50,12 +37,11 @@ fn note(
 {
     match answer {
         Err(_) => figures.turned_away += 1,
-        Ok(given) => {
+        Ok(None) => figures.accepted += 1,
+        Ok(Some(record)) => {
             figures.accepted += 1;
-            if let Some(record) = given {
-                figures.live += 1;
-                let _ = log.add(record);
-            }
+            figures.live += 1;
+            let _ = log.add(record);
         }
     }
 }
@@ -70,16 +56,15 @@ impl<'a> Pipeline<'a> {
         memory: &mut M,
         log: &mut Log<'_, Retirement>,
     ) -> Result<RunFigures, RunRefusal>
-        ensures value { result ≡ (run_of (world_of (U.Unit.table unit.now) self.old.image) (sets_in self.old.layout.parts) self.old.pipes (M.Readable.words memory.old) (moves_in moves.now.parts) (length log.old.places.now - log.old.count)).answer }
-        ensures pipes { self.new.pipes ≡ (run_of (world_of (U.Unit.table unit.now) self.old.image) (sets_in self.old.layout.parts) self.old.pipes (M.Readable.words memory.old) (moves_in moves.now.parts) (length log.old.places.now - log.old.count)).pipes }
-        ensures words { M.Readable.words memory.new ≡ (run_of (world_of (U.Unit.table unit.now) self.old.image) (sets_in self.old.layout.parts) self.old.pipes (M.Readable.words memory.old) (moves_in moves.now.parts) (length log.old.places.now - log.old.count)).words }
-        ensures places { log.new.places.now ≡ logged log.old.places.now log.old.count (run_of (world_of (U.Unit.table unit.now) self.old.image) (sets_in self.old.layout.parts) self.old.pipes (M.Readable.words memory.old) (moves_in moves.now.parts) (length log.old.places.now - log.old.count)).live }
-        ensures count { log.new.count ≡ log.old.count + length (run_of (world_of (U.Unit.table unit.now) self.old.image) (sets_in self.old.layout.parts) self.old.pipes (M.Readable.words memory.old) (moves_in moves.now.parts) (length log.old.places.now - log.old.count)).live }
+        ensures value { result ≡ (list_run (U.Unit.table unit.now) self.old (M.Readable.words memory.old) (moves_in moves.now) (room log.old)).answer }
+        ensures pipes { self.new.pipes ≡ (list_run (U.Unit.table unit.now) self.old (M.Readable.words memory.old) (moves_in moves.now) (room log.old)).pipes }
+        ensures words { M.Readable.words memory.new ≡ (list_run (U.Unit.table unit.now) self.old (M.Readable.words memory.old) (moves_in moves.now) (room log.old)).words }
+        ensures places { log.new.places.now ≡ logged log.old.places.now log.old.count (list_run (U.Unit.table unit.now) self.old (M.Readable.words memory.old) (moves_in moves.now) (room log.old)).live }
+        ensures count { log.new.count ≡ log.old.count + length (list_run (U.Unit.table unit.now) self.old (M.Readable.words memory.old) (moves_in moves.now) (room log.old)).live }
         ensures root { log.new.places.ghost_name ≡ log.old.places.ghost_name }
         ensures image { self.new.image ≡ self.old.image }
         ensures layout { self.new.layout ≡ self.old.layout }
-        ensures rooted { M.Memory.roots memory.new ≡ M.Memory.roots memory.old }
-        ensures beyond { M.Memory.beyond memory.new ≡ M.Memory.beyond memory.old }
+        ensures kept { M.Memory.kept memory.new ≡ M.Memory.kept memory.old }
     {
         if log.free() < retirements(moves) {
             return Err(RunRefusal::ShortLog);
@@ -89,11 +74,8 @@ impl<'a> Pipeline<'a> {
             turned_away: 0,
             live: 0,
         };
-        for index in 0..moves.count() {
-            let Some(next) = moves.get(index) else {
-                return unreachable();
-            };
-            let answer = self.make_move(next.kind.number(), next.place, unit, memory);
+        for next in moves {
+            let answer = self.make(next, unit, memory);
             note(answer, log, &mut figures);
         }
         Ok(figures)

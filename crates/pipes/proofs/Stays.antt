@@ -9,8 +9,6 @@ use Rattle.packets.specs.declared.packets.Packet.{Packet}
 use Rattle.packets.specs.declared.stages.Stage.{Stage}
 use Rattle.packets.specs.Stages.{vacant}
 use Rattle.pipes.specs.declared.answers.MoveRefusal.{MoveRefusal}
-use Rattle.pipes.specs.declared.state.FetchPoint.{FetchPoint}
-use Rattle.pipes.specs.declared.state.FetchPoint.TheVariants.{Open, Closed}
 use Rattle.pipes.specs.declared.state.Pipes.{Pipes}
 use Rattle.pipes.specs.Questions.{stage_at, packet_at, top, refusal_of}
 use Rattle.pipes.specs.Moving.{Left, moved_by, moved, accepted, accepted_by, fetched_from, vacated, writing_if, leaving_effect, retired_from}
@@ -38,9 +36,9 @@ retired_stages P words None = refl
 retired_stages P words (Some p) = writing_stages P words p.fetched.place (leaving_effect p)
 
 module _ (W : World) (sets : List ℕ) (P : Pipes) (words : List ℕ) (k : ℕ) where
-  fetched_apart : (f : FetchPoint) → (k ≡ 0 → ⊥) → stage_at (fetched_from W words P f) k ≡ stage_at P k
-  fetched_apart (Open place) h = other P.stages k 0 _ h
-  fetched_apart Closed h = refl
+  fetched_apart : (f : Option ℕ) → (k ≡ 0 → ⊥) → stage_at (fetched_from W words P f) k ≡ stage_at P k
+  fetched_apart (Some place) h = other P.stages k 0 _ h
+  fetched_apart None h = refl
 
   accepted_apart : (kind : MoveKind) (s : ℕ) → Apart sets kind s k → stage_at (accepted W sets P words kind s).pipes k ≡ stage_at P k
   accepted_apart Fetch s h = fetched_apart P.fetch h

@@ -23,14 +23,12 @@ use Rattle.packets.specs.declared.stages.Stage.{Stage}
 use Rattle.packets.specs.Entering.{guess_of, entering}
 use Rattle.packets.specs.Stages.{staged, vacant, result_in, met, executing, inserting}
 use Rattle.pipes.specs.declared.answers.MoveRefusal.{MoveRefusal}
-use Rattle.pipes.specs.declared.state.FetchPoint.{FetchPoint}
-use Rattle.pipes.specs.declared.state.FetchPoint.TheVariants.{Open, Closed}
 use Rattle.pipes.specs.declared.state.Pipes.{Pipes}
 use Rattle.pipes.specs.Questions.{stage_at, packet_at, top, refusal_of}
 
 -- empty slots, fetch open at 0, registers 0, not halted
 abbrev pub fresh : Pipes
-fresh = record { stages = replicate 16 vacant; registers = replicate 16 0; fetch = Open 0; halted = false }
+fresh = record { stages = replicate 16 vacant; registers = replicate 16 0; fetch = Some 0; halted = false }
 
 abbrev pub with_stages : Pipes → List Stage → Pipes
 with_stages P stages = record { stages = stages; registers = P.registers; fetch = P.fetch; halted = P.halted }
@@ -38,7 +36,7 @@ with_stages P stages = record { stages = stages; registers = P.registers; fetch 
 abbrev pub with_stage : Pipes → ℕ → Stage → Pipes
 with_stage P s x = with_stages P (slice_set P.stages s x)
 
-abbrev pub with_fetch : Pipes → FetchPoint → Pipes
+abbrev pub with_fetch : Pipes → Option ℕ → Pipes
 with_fetch P fetch = record { stages = P.stages; registers = P.registers; fetch = fetch; halted = P.halted }
 
 -- FETCH: behind a halt and a place past the end fetch is closed, else it goes on at the guess
@@ -53,8 +51,8 @@ closes (Some (instruction.Load destination base offset)) = false
 closes (Some (instruction.Store base stored offset)) = false
 closes (Some (instruction.Compute operation destination first second)) = false
 
-abbrev pub fetch_behind : Fetched → FetchPoint
-fetch_behind fetched = cond (closes fetched.instruction) Closed (Open (guess_of fetched))
+abbrev pub fetch_behind : Fetched → Option ℕ
+fetch_behind fetched = cond (closes fetched.instruction) None (Some (guess_of fetched))
 
 abbrev pub fetched_at : World → ℕ → Fetched
 fetched_at W place = record { place = place; instruction = slice_get W.program place }
@@ -62,9 +60,9 @@ fetched_at W place = record { place = place; instruction = slice_get W.program p
 abbrev pub entered : World → List ℕ → Pipes → Fetched → Pipes
 entered W words P fetched = with_fetch (with_stage P 0 (met (Some (entering W.table words W.handler fetched)) (result_in (stage_at P 0)))) (fetch_behind fetched)
 
-abbrev pub fetched_from : World → List ℕ → Pipes → FetchPoint → Pipes
-fetched_from W words P (Open place) = entered W words P (fetched_at W place)
-fetched_from W words P Closed = P
+abbrev pub fetched_from : World → List ℕ → Pipes → Option ℕ → Pipes
+fetched_from W words P (Some place) = entered W words P (fetched_at W place)
+fetched_from W words P None = P
 
 -- RAISE: the packet goes up and meets the result there
 abbrev pub raised : Pipes → ℕ → Pipes
@@ -88,11 +86,11 @@ abbrev pub read_into : List ℕ → Pipes → ℕ → Pipes
 read_into sets P r = with_stage P (top sets) (met (packet_at P (top sets)) (Some (read_value P r)))
 
 -- DROP: a wrong-branch and a trap open fetch at their target
-abbrev pub fetch_on : Option PipeResult → FetchPoint → FetchPoint
+abbrev pub fetch_on : Option PipeResult → Option ℕ → Option ℕ
 fetch_on None fetch = fetch
 fetch_on (Some (result.Value register word)) fetch = fetch
-fetch_on (Some (result.WrongBranch target)) fetch = Open target
-fetch_on (Some (result.Trap handler)) fetch = Open handler
+fetch_on (Some (result.WrongBranch target)) fetch = Some target
+fetch_on (Some (result.Trap handler)) fetch = Some handler
 
 abbrev pub dropped : Pipes → Pipes
 dropped P = with_fetch (with_stage P 0 (staged (packet_at P 0) None)) (fetch_on (result_in (stage_at P 0)) P.fetch)

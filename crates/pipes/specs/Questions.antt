@@ -1,5 +1,5 @@
 -- The questions that a move is asked, in their order.
-use Rattle.std.specs.Prelude.{ℕ, ◌+◌, ◌-◌, Bool, true, false, cond, not, ◌&&◌, ◌||◌, List, length, is_some, Some, None, Option, ◌==◌, nat_lt, slice_index_or}
+use Rattle.std.specs.Prelude.{ℕ, ◌+◌, ◌-◌, Bool, false, cond, not, ◌&&◌, ◌||◌, List, length, is_some, Some, None, Option, ◌==◌, nat_lt, slice_index_or}
 use Rattle.instruction.specs.declared.instructions.Instruction.{Instruction}
 use Rattle.instruction.specs.Operations.{operation_of}
 use Rattle.layout.specs.Able.{able, able_from}
@@ -13,8 +13,6 @@ use Rattle.packets.specs.Packets.{ready, may_execute, may_insert, may_retire, ma
 use Rattle.packets.specs.Stages.{vacant, free}
 use Rattle.pipes.specs.declared.answers.MoveRefusal.{MoveRefusal}
 use Rattle.pipes.specs.declared.answers.MoveRefusal.TheVariants.{Halted, UnknownKind, WrongPlace, NothingThere, FetchClosed, Occupied, WrongState, SourceMissing, NoStage}
-use Rattle.pipes.specs.declared.state.FetchPoint.{FetchPoint}
-use Rattle.pipes.specs.declared.state.FetchPoint.TheVariants.{Open, Closed}
 use Rattle.pipes.specs.declared.state.Pipes.{Pipes}
 
 abbrev pub move_number : MoveRefusal → ℕ
@@ -41,9 +39,9 @@ slot_at P s = (stage_at P s).result
 abbrev pub top : List ℕ → ℕ
 top sets = length sets - 1
 
-abbrev pub is_open : FetchPoint → Bool
-is_open (Open place) = true
-is_open Closed = false
+-- is fetch open at a place
+abbrev pub is_open : Option ℕ → Bool
+is_open fetch = is_some fetch
 
 -- is there a packet of which the test holds
 abbrev pub holds_of : (Packet → Bool) → Option Packet → Bool
@@ -79,51 +77,51 @@ place_right n Drop place = place == 0
 abbrev pub asks : Bool → MoveRefusal → Option MoveRefusal → Option MoveRefusal
 asks answer refusal next = cond answer next (Some refusal)
 
-module _ (P : Pipes) where
-  abbrev pub ask_fetch : Option MoveRefusal
-  ask_fetch = asks (is_open P.fetch) FetchClosed (asks (not (is_some (packet_at P 0))) Occupied None)
+-- What each kind is asked, of the one or two stages that it names; of the numbers, a stage's own.
+abbrev pub ask_fetch : Option ℕ → Stage → Option MoveRefusal
+ask_fetch fetch bottom = asks (is_open fetch) FetchClosed (asks (not (is_some bottom.packet)) Occupied None)
 
-  abbrev pub ask_raise : List ℕ → ℕ → Option MoveRefusal
-  ask_raise sets s =
-      asks (is_some (packet_at P s)) NothingThere
-      (asks (not (is_some (packet_at P (s + 1)))) Occupied
-      (asks (holds_of (may_rise sets s) (packet_at P s)) NoStage None))
+abbrev pub ask_raise : List ℕ → ℕ → Stage → Stage → Option MoveRefusal
+ask_raise sets s here above =
+    asks (is_some here.packet) NothingThere
+    (asks (not (is_some above.packet)) Occupied
+    (asks (holds_of (may_rise sets s) here.packet) NoStage None))
 
-  abbrev pub ask_lower : ℕ → Option MoveRefusal
-  ask_lower s = asks (not (free (slot_at P s))) NothingThere (asks (free (slot_at P (s - 1))) Occupied None)
+abbrev pub ask_lower : Stage → Stage → Option MoveRefusal
+ask_lower here below = asks (not (free here.result)) NothingThere (asks (free below.result) Occupied None)
 
-  abbrev pub ask_execute : List ℕ → ℕ → Option MoveRefusal
-  ask_execute sets s =
-      asks (is_some (packet_at P s)) NothingThere
-      (asks (holds_of may_execute (packet_at P s)) WrongState
-      (asks (holds_of ready (packet_at P s)) SourceMissing
-      (asks (holds_of (λ p. able_for sets s p.fetched.instruction) (packet_at P s)) NoStage None)))
+abbrev pub ask_execute : List ℕ → ℕ → Stage → Option MoveRefusal
+ask_execute sets s here =
+    asks (is_some here.packet) NothingThere
+    (asks (holds_of may_execute here.packet) WrongState
+    (asks (holds_of ready here.packet) SourceMissing
+    (asks (holds_of (λ p. able_for sets s p.fetched.instruction) here.packet) NoStage None)))
 
-  abbrev pub ask_insert : ℕ → Option MoveRefusal
-  ask_insert s =
-      asks (is_some (packet_at P s)) NothingThere
-      (asks (free (slot_at P s)) Occupied
-      (asks (holds_of may_insert (packet_at P s)) WrongState None))
+abbrev pub ask_insert : Stage → Option MoveRefusal
+ask_insert here =
+    asks (is_some here.packet) NothingThere
+    (asks (free here.result) Occupied
+    (asks (holds_of may_insert here.packet) WrongState None))
 
-  abbrev pub ask_read : ℕ → Option MoveRefusal
-  ask_read top = asks (free (slot_at P top)) Occupied None
+abbrev pub ask_read : Stage → Option MoveRefusal
+ask_read highest = asks (free highest.result) Occupied None
 
-  abbrev pub ask_retire : ℕ → Option MoveRefusal
-  ask_retire top = asks (is_some (packet_at P top)) NothingThere (asks (holds_of may_retire (packet_at P top)) WrongState None)
+abbrev pub ask_retire : Stage → Option MoveRefusal
+ask_retire highest = asks (is_some highest.packet) NothingThere (asks (holds_of may_retire highest.packet) WrongState None)
 
-  abbrev pub ask_drop : Option MoveRefusal
-  ask_drop = asks (not (free (slot_at P 0))) NothingThere None
+abbrev pub ask_drop : Stage → Option MoveRefusal
+ask_drop bottom = asks (not (free bottom.result)) NothingThere None
 
 module _ (sets : List ℕ) (P : Pipes) where
   abbrev pub questions : MoveKind → ℕ → Option MoveRefusal
-  questions Fetch s = ask_fetch P
-  questions Raise s = ask_raise P sets s
-  questions Lower s = ask_lower P s
-  questions Execute s = ask_execute P sets s
-  questions Insert s = ask_insert P s
-  questions Read r = ask_read P (top sets)
-  questions Retire s = ask_retire P (top sets)
-  questions Drop s = ask_drop P
+  questions Fetch s = ask_fetch P.fetch (stage_at P 0)
+  questions Raise s = ask_raise sets s (stage_at P s) (stage_at P (s + 1))
+  questions Lower s = ask_lower (stage_at P s) (stage_at P (s - 1))
+  questions Execute s = ask_execute sets s (stage_at P s)
+  questions Insert s = ask_insert (stage_at P s)
+  questions Read r = ask_read (stage_at P (top sets))
+  questions Retire s = ask_retire (stage_at P (top sets))
+  questions Drop s = ask_drop (stage_at P 0)
 
   abbrev pub asked : MoveKind → ℕ → Option MoveRefusal
   asked kind place = asks (place_right (length sets) kind place) WrongPlace (questions kind place)

@@ -1,5 +1,5 @@
 -- A list of moves, one after another.
-use Rattle.std.specs.Prelude.{ℕ, ◌+◌, cond, List, [], ◌∷◌, ◌++◌, length, Some, None, Ok, Err, Option, Result, ◌==◌, nat_le}
+use Rattle.std.specs.Prelude.{ℕ, ◌+◌, Bool, cond, count_by, List, [], ◌∷◌, ◌++◌, length, Some, None, Ok, Err, Option, Result, ◌==◌, nat_le}
 use Rattle.bounded_log.specs.Entries.{added_to, count_after}
 use Rattle.effect.specs.declared.actions.Retirement.{Retirement}
 use Rattle.stepper.specs.Machine.{World}
@@ -15,13 +15,12 @@ use Rattle.pipes.specs.Moving.{Moved, moved}
 abbrev pub run_number : RunRefusal → ℕ
 run_number ShortLog = 27
 
--- how many moves of a list are retirements
-abbrev pub retires : Move → ℕ
-retires m = cond (number_of m.kind == 7) 1 0
+abbrev pub is_retire : Move → Bool
+is_retire m = number_of m.kind == 7
 
+-- how many moves of a list are retirements
 abbrev pub retirements : List Move → ℕ
-retirements [] = 0
-retirements (m ∷ ms) = retires m + retirements ms
+retirements ms = count_by is_retire ms
 
 -- how far a run has come
 pub record Tally : Type 0 where

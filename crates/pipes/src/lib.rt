@@ -1,9 +1,11 @@
 //! The two pipes as plain data, and what every move makes of them.
 #![tactic(auto)]
 
+pub use ables::some_able;
 pub use answers::{Drain, DrainRefusal, MoveRefusal, RunFigures, RunRefusal};
-pub use state::{FetchPoint, Pipes};
+pub use state::Pipes;
 
+mod ables;
 mod answers;
 mod state;
 mod telling;

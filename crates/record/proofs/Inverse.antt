@@ -11,10 +11,9 @@ use Rattle.instruction.specs.Named.{register, unit_op}
 use Rattle.instruction.proofs.Same.{same_register, same_operation}
 use Rattle.record.specs.declared.faults.RecordFault.{RecordFault}
 use Rattle.record.specs.declared.records.Record.{Record}
-use Rattle.record.specs.declared.shapes.FieldUse.{FieldUse}
 use Rattle.record.specs.declared.shapes.FieldUse.TheVariants.{Unused, Word, Hint, RegisterName, RegisterOrLiteral}
 use Rattle.record.specs.declared.shapes.Shape.{Shape}
-use Rattle.record.specs.Decoding.{shape_of, admits, spared, fault_of, built_of, computing_of, judged, shaped, instruction_of}
+use Rattle.record.specs.Decoding.{uses, shape_of, admits, spared, fault_of, built_of, computing_of, judged, shaped, instruction_of}
 use Rattle.record.specs.Encoding.{fields, encoded, DecodesExactly}
 
 -- From an instruction to its record and back.
@@ -29,9 +28,6 @@ operation_back o =
     let l = o.below in
     let e : (16 + o.number) % 16 ≡ o.number = omega arith in
     same_operation (unit_op (16 + o.number)) o e
-
-abbrev uses : FieldUse → FieldUse → FieldUse → FieldUse → Shape
-uses d f s l = record { destination = d; first = f; second = s; literal = l }
 
 abbrev computes : ℕ → Shape
 computes s = uses RegisterName RegisterName RegisterOrLiteral (cond (eqb s 16) Word Unused)

@@ -19,8 +19,11 @@ abbrev pub record_of : List ℕ → Record
 record_of bytes =
     record { operation = byte_at bytes 0; destination = byte_at bytes 1; first = byte_at bytes 2; second = byte_at bytes 3; literal = four_at bytes 4 }
 
+abbrev pub uses : FieldUse → FieldUse → FieldUse → FieldUse → Shape
+uses destination first second literal = record { destination = destination; first = first; second = second; literal = literal }
+
 abbrev shape : FieldUse → FieldUse → FieldUse → FieldUse → Option Shape
-shape destination first second literal = Some (record { destination = destination; first = first; second = second; literal = literal })
+shape destination first second literal = Some (uses destination first second literal)
 
 -- how operations 16 to 31 use their fields: the literal is used where second is 16
 abbrev computing : ℕ → Option Shape
@@ -38,6 +41,22 @@ shape_of operation second =
     (cond (operation == 6) (shape Unused RegisterName RegisterName Word)
     (cond (nat_lt operation 16) None
     (cond (nat_lt operation 32) (computing second) None))))))))
+
+-- the literal is used where the second operand is one
+abbrev pub literal_use : Operand → FieldUse
+literal_use (operand.Literal word) = Word
+literal_use (operand.Register register) = Unused
+
+-- how an instruction uses the fields of its record
+abbrev pub shape_for : Instruction → Shape
+shape_for Halt = uses Unused Unused Unused Unused
+shape_for (Jump target) = uses Unused Unused Unused Word
+shape_for (Set destination word) = uses RegisterName Unused Unused Word
+shape_for (BranchZero hint tested target) = uses Hint RegisterName Unused Word
+shape_for (JumpRegister target guess) = uses Unused RegisterName Unused Word
+shape_for (Load destination base offset) = uses RegisterName RegisterName Unused Word
+shape_for (Store base stored offset) = uses Unused RegisterName RegisterName Word
+shape_for (Compute operation destination first second) = uses RegisterName RegisterName RegisterOrLiteral (literal_use second)
 
 -- is the value in the range of a field that is used so
 abbrev pub admits : FieldUse → ℕ → Bool

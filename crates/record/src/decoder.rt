@@ -1,6 +1,7 @@
-ghost use Rattle.std.specs.Prelude.{◌≡◌, ◌<◌, ◌≤◌, length, drop, MatchOption};
+ghost use Rattle.std.specs.Prelude.{◌≡◌, ◌<◌, ◌≤◌, length, drop, None, Some, MatchOption};
+ghost use Rattle.fields.specs.Scanning.{verdict};
 ghost use Rattle.record.specs.Encoding.{DecodesExactly};
-ghost use Rattle.record.specs.Decoding.{record_of, shape_of, admits, spared, fault_of, computing_of, built_of, instruction_of};
+ghost use Rattle.record.specs.Decoding.{record_of, shape_of, shape_for, admits, spared, fault_of, computing_of, built_of, instruction_of};
 
 use crate::faults::{Field, RecordFault};
 use crate::records::Record;
@@ -14,8 +15,7 @@ impl FieldUse {
         ensures { result ≡ admits self value }
     {
         match self {
-            Unused => true,
-            Word => true,
+            Unused | Word => true,
             Hint => value < 2,
             RegisterName => value < 16,
             RegisterOrLiteral => value < 17,
@@ -26,44 +26,42 @@ impl FieldUse {
     fn spared(self, value: u32) -> bool
         ensures { result ≡ spared self value }
     {
-        match self {
-            Unused => value == 0,
-            Word => true,
-            Hint => true,
-            RegisterName => true,
-            RegisterOrLiteral => true,
-        }
+        value == 0 || !matches!(self, Unused)
     }
 }
 
-/// How the fields are used by an operation; none where the operation is not in the table.
-fn shape_of(operation: u8, second: u8) -> Option<Shape>
-    ensures { result ≡ shape_of operation second }
+/// How an instruction uses the fields of its record.
+fn shape_of(instruction: Instruction) -> Shape
+    ensures { result ≡ shape_for instruction }
 {
-    let (destination, first, second, literal) = match operation {
-        0 => (Unused, Unused, Unused, Unused),
-        1 => (Unused, Unused, Unused, Word),
-        2 => (RegisterName, Unused, Unused, Word),
-        3 => (Hint, RegisterName, Unused, Word),
-        4 => (Unused, RegisterName, Unused, Word),
-        5 => (RegisterName, RegisterName, Unused, Word),
-        6 => (Unused, RegisterName, RegisterName, Word),
-        16..=31 => {
-            let literal = if second == 16 { Word } else { Unused };
+    let (destination, first, second, literal) = match instruction {
+        Instruction::Halt => (Unused, Unused, Unused, Unused),
+        Instruction::Jump { .. } => (Unused, Unused, Unused, Word),
+        Instruction::Set { .. } => (RegisterName, Unused, Unused, Word),
+        Instruction::BranchZero { .. } => (Hint, RegisterName, Unused, Word),
+        Instruction::JumpRegister { .. } => (Unused, RegisterName, Unused, Word),
+        Instruction::Load { .. } => (RegisterName, RegisterName, Unused, Word),
+        Instruction::Store { .. } => (Unused, RegisterName, RegisterName, Word),
+        Instruction::Compute { second, .. } => {
+            let literal = if matches!(second, Operand::Literal(_)) {
+                Word
+            } else {
+                Unused
+            };
             (RegisterName, RegisterName, RegisterOrLiteral, literal)
         }
-        _ => return None,
     };
-    Some(Shape {
+    Shape {
         destination,
         first,
         second,
         literal,
-    })
+    }
 }
 
 impl Record {
     /// The record in the first eight bytes, and the bytes after it; none where there are fewer.
+    #[tactic(auto, using(std::proofs::lemmas::List::take_rest))]
     pub fn split(bytes: &[u8]) -> Option<(Record, &[u8])>
         ensures { MatchOption result (length bytes.now < 8) (λ p. (8 ≤ length bytes.now) × (p.0 ≡ record_of bytes.now) × (p.1.now ≡ drop 8 bytes.now)) }
     {
@@ -94,30 +92,31 @@ impl Record {
         ))
     }
 
-    /// The first field that is no use of its shape: first those out of range, then those that should be 0.
-    fn fault(self, shape: Shape) -> Option<RecordFault>
-        ensures { result ≡ fault_of shape self }
+    /// Is each field a use of its shape? If not, the first that is none: first those out of range, then
+    /// those that should be 0.
+    fn check(self, shape: Shape) -> Result<(), RecordFault>
+        ensures { result ≡ verdict (fault_of shape self) }
     {
         if !shape.destination.admits(self.destination) {
-            Some(RecordFault::OutOfRange(Field::Destination))
+            Err(RecordFault::OutOfRange(Field::Destination))
         } else if !shape.first.admits(self.first) {
-            Some(RecordFault::OutOfRange(Field::First))
+            Err(RecordFault::OutOfRange(Field::First))
         } else if !shape.second.admits(self.second) {
-            Some(RecordFault::OutOfRange(Field::Second))
+            Err(RecordFault::OutOfRange(Field::Second))
         } else if !shape.destination.spared(u32::from(self.destination)) {
-            Some(RecordFault::NotZero(Field::Destination))
+            Err(RecordFault::NotZero(Field::Destination))
         } else if !shape.first.spared(u32::from(self.first)) {
-            Some(RecordFault::NotZero(Field::First))
+            Err(RecordFault::NotZero(Field::First))
         } else if !shape.second.spared(u32::from(self.second)) {
-            Some(RecordFault::NotZero(Field::Second))
+            Err(RecordFault::NotZero(Field::Second))
         } else if !shape.literal.spared(self.literal) {
-            Some(RecordFault::NotZero(Field::Literal))
+            Err(RecordFault::NotZero(Field::Literal))
         } else {
-            None
+            Ok(())
         }
     }
 
-    /// The instruction of a record without fault whose operation is 16 to 31.
+    /// The instruction of an operation of 16 to 31 and the fields.
     fn computing(self) -> Instruction
         ensures { result ≡ computing_of self }
     {
@@ -134,15 +133,16 @@ impl Record {
         }
     }
 
-    /// The instruction of a record without fault.
-    fn built(self) -> Instruction
-        ensures { result ≡ built_of self }
+    /// The instruction of the operation and the fields, whether or not they are without fault; none where
+    /// the operation is not in the table.
+    fn built(self) -> Option<Instruction>
+        ensures { MatchOption result (shape_of self.operation self.second ≡ None) (λ i. (i ≡ built_of self) × (shape_of self.operation self.second ≡ Some (shape_for i))) }
     {
         let Record { literal, .. } = self;
         let destination = Register::named(self.destination);
         let first = Register::named(self.first);
         let second = Register::named(self.second);
-        match self.operation {
+        let instruction = match self.operation {
             0 => Instruction::Halt,
             1 => Instruction::Jump { target: literal },
             2 => Instruction::Set {
@@ -168,21 +168,20 @@ impl Record {
                 stored: second,
                 offset: literal,
             },
-            _ => self.computing(),
-        }
+            16..=31 => self.computing(),
+            _ => return None,
+        };
+        Some(instruction)
     }
 
     /// The instruction that the record is, or its first fault.
+    #[tactic(auto, using(crate::proofs::Inverse::decodes_exactly))]
     pub fn instruction(self) -> Result<Instruction, RecordFault>
         ensures value { result ≡ instruction_of self }
         ensures exact { (i : Instruction) → DecodesExactly self i }
     {
-        let Some(shape) = shape_of(self.operation, self.second) else {
-            return Err(RecordFault::UnknownOperation);
-        };
-        match self.fault(shape) {
-            Some(fault) => Err(fault),
-            None => Ok(self.built()),
-        }
+        let instruction = self.built().ok_or(RecordFault::UnknownOperation)?;
+        self.check(shape_of(instruction))?;
+        Ok(instruction)
     }
 }

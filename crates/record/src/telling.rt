@@ -8,15 +8,11 @@ impl Field {
     pub fn offset(self) -> u8
         ensures { result ≡ field_offset self }
     {
-        match self {
-            Field::Destination => 1,
-            Field::First => 2,
-            Field::Second => 3,
-            Field::Literal => 4,
-        }
+        self as u8
     }
 }
 
+// Matches, since cases that hold something can have no numbers of their own.
 impl RecordFault {
     /// The number of the question that decided.
     pub fn number(self) -> u8
@@ -35,8 +31,7 @@ impl RecordFault {
     {
         match self {
             RecordFault::UnknownOperation => 0,
-            RecordFault::OutOfRange(field) => field.offset(),
-            RecordFault::NotZero(field) => field.offset(),
+            RecordFault::OutOfRange(field) | RecordFault::NotZero(field) => field.offset(),
         }
     }
 }

@@ -1,6 +1,7 @@
 //! Jobs to run, and how what they leave is compared.
 use bounded_log::Log;
 use effect::{Action, Retirement};
+use fields::Refusal;
 use running::{JobRun, JobRunFault, run_job};
 use std::alloc::Global;
 use std::process::Abort;
@@ -78,7 +79,7 @@ fn told(answer: Result<JobRun, JobRunFault>) -> Answer {
             halted,
         )),
         Err(fault) => {
-            let refusal = fault.refusal();
+            let refusal = Refusal::from(fault);
             Err((refusal.number, refusal.place))
         }
     }

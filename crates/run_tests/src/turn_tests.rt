@@ -2,11 +2,11 @@
 use crate::jobs::{JOB, KEPT, STAYS, UNUSED, add_moves, begin, places_hold};
 use bounded_log::Log;
 use effect::Retirement;
-use fit::{Fitted, fit};
-use image::{Image, read_image};
-use layout::{Layout, read_layout};
+use fit::fit;
+use image::read_image;
+use layout::read_layout;
 use memory::OwnWords;
-use moves::{MoveList, read_moves};
+use moves::read_moves;
 use pipeline::Pipeline;
 use std::alloc::Global;
 use std::process::Abort;
@@ -56,8 +56,7 @@ fn answer(
     list: &[u8],
     log: &mut Log<'_, Retirement>,
 ) -> Result<Result<(usize, usize, usize), u8>, Fail> {
-    let (parts, _) = read_moves(list)?;
-    let moves = MoveList { parts };
+    let (moves, _) = read_moves(list)?;
     match pipeline.run(&moves, &WholeNumber, &mut OwnWords::new(), log) {
         Ok(figures) => Ok(Ok((figures.accepted, figures.turned_away, figures.live))),
         Err(fault) => Ok(Err(fault.number())),
@@ -96,8 +95,7 @@ fn built<'a>(
 ) -> Result<(), Fail> {
     let (image, _) = read_image(image)?;
     let (layout, _) = read_layout(layout)?;
-    let parts = fit::<WholeNumber>(Image { parts: image }, Layout { parts: layout })?;
-    let mut pipeline = Pipeline::build(Fitted { parts });
+    let mut pipeline = Pipeline::build(fit::<WholeNumber>(image, layout)?);
     turns_are(rt, heap, &mut pipeline, &mut Log::new(places), table)
 }
 

@@ -1,11 +1,9 @@
 -- What was read, fitted and run, put together.
-use Rattle.std.proofs.Common.{◌≡◌, ℕ, ◌+◌, ◌-◌, Bool, List, ◌++◌, length, take, drop, Ok, Err, Result, sym, refl, ap, ◌∙◌, subst, arith, take-append-drop}
+use Rattle.std.proofs.Common.{◌≡◌, ℕ, ◌+◌, ◌-◌, Bool, List, ◌++◌, length, take, drop, Ok, Err, IsErrAnd, Result, sym, refl, ap, ◌∙◌, subst, arith, take-append-drop}
 use Rattle.bounded_log.specs.declared.places.Log.{Log}
 use Rattle.image.specs.declared.images.Image.{Image}
-use Rattle.image.specs.declared.parts.ImageParts.{ImageParts}
 use Rattle.image.specs.Meaning.{program}
 use Rattle.layout.specs.declared.layouts.Layout.{Layout}
-use Rattle.layout.specs.declared.parts.LayoutParts.{LayoutParts}
 use Rattle.layout.specs.Meaning.{sets_in}
 use Rattle.moves.specs.Meaning.{moves_in}
 use Rattle.effect.specs.declared.actions.Retirement.{Retirement}
@@ -32,6 +30,11 @@ use Rattle.running.specs.declared.answers.JobRunFault.TheVariants as fault
 use Rattle.running.specs.Jobs.{run_in, world_in, RunsIf, JobRuns, kept}
 use Rattle.running.specs.Overs.{RanOver}
 
+-- an error that is told is the answer
+pub err_is : {A B : Type 0} (r : Result A B) (x : B) → IsErrAnd r (λ e. e ≡ x) → r ≡ Err x
+err_is (Ok a) x h = elim h [ ]
+err_is (Err e) x h = ap Err h
+
 -- the clauses of `run_job`
 pub record Promised (table : Table) (known : ℕ) (words words' : List ℕ) (log log' : Log Retirement) (read : Result Contents JobFault) (r : Result JobRun JobRunFault) : Type 0 where
   pub value : JobRuns table known words (length log.places.now - log.count) read r
@@ -56,12 +59,12 @@ module _ (table : Table) (known : ℕ) (words : List ℕ) (log : Log Retirement)
 
 -- the run of the pipeline that was built is the run of the job
 pub run_is : (table : Table) (words : List ℕ) (room : ℕ) (image : Image) (layout : Layout) (P : Pipes) (job : FittedJob) →
-    image.parts ≡ job.fitted.image → layout.parts ≡ job.fitted.layout → P ≡ fresh →
-    run_of (world_of table image) (sets_in layout.parts) P (take 65536 words) (moves_in job.moves) room ≡ run_in table words room (contents_of job)
+    image ≡ job.fitted.image → layout ≡ job.fitted.layout → P ≡ fresh →
+    run_of (world_of table image) (sets_in layout) P (take 65536 words) (moves_in job.moves) room ≡ run_in table words room (contents_of job)
 run_is table words room image layout P job i l p =
-    let world : ImageParts → World = λ x. record { table = table; program = program x; handler = x.head.handler } in
-    ap (λ (x : ImageParts). run_of (world x) (sets_in layout.parts) P (take 65536 words) (moves_in job.moves) room) i
-    ∙ ap (λ (x : LayoutParts). run_of (world job.fitted.image) (sets_in x) P (take 65536 words) (moves_in job.moves) room) l
+    let world : Image → World = λ x. record { table = table; program = program x; handler = x.head.handler } in
+    ap (λ (x : Image). run_of (world x) (sets_in layout) P (take 65536 words) (moves_in job.moves) room) i
+    ∙ ap (λ (x : Layout). run_of (world job.fitted.image) (sets_in x) P (take 65536 words) (moves_in job.moves) room) l
     ∙ ap (λ (x : Pipes). run_of (world job.fitted.image) (sets_in job.fitted.layout) x (take 65536 words) (moves_in job.moves) room) p
 
 pub ran_as : {R R' : Run} {P' : Pipes} {ws : List ℕ} {log log' : Log Retirement} {a : Result RunFigures RunRefusal} → R ≡ R' → RanOver R P' ws log log' a → RanOver R' P' ws log log' a

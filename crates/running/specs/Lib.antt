@@ -1,3 +1,4 @@
 pub mod Refusals
 pub mod Jobs
 pub mod Overs
+pub mod Figures

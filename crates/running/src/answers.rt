@@ -1,3 +1,6 @@
+ghost use Rattle.std.specs.Prelude.{◌≡◌};
+ghost use Rattle.running.specs.declared.answers.JobRunFault.TheVariants.{Check, Run};
+
 use checking::{CheckFault, JobFigures};
 use pipes::{RunFigures, RunRefusal};
 
@@ -14,4 +17,20 @@ pub struct JobRun {
 pub enum JobRunFault {
     Check(CheckFault),
     Run(RunRefusal),
+}
+
+impl From<CheckFault> for JobRunFault {
+    ghost from_gives = { λ fault refused. refused ≡ Check fault };
+
+    fn from(fault: CheckFault) -> JobRunFault {
+        JobRunFault::Check(fault)
+    }
+}
+
+impl From<RunRefusal> for JobRunFault {
+    ghost from_gives = { λ refusal refused. refused ≡ Run refusal };
+
+    fn from(refusal: RunRefusal) -> JobRunFault {
+        JobRunFault::Run(refusal)
+    }
 }

@@ -1,19 +1,15 @@
-ghost use Rattle.std.specs.Prelude.{◌≡◌, ◌-◌, length, take, drop};
-ghost use Rattle.layout.specs.Meaning.{sets_in};
+ghost use Rattle.std.specs.Prelude.{◌≡◌, take, drop};
+ghost use Rattle.bounded_log.specs.Room.{room};
 ghost use Rattle.moves.specs.Meaning.{moves_in};
-ghost use Rattle.stepper.specs.View.{world_of};
-ghost use Rattle.pipes.specs.Running.{run_of};
+ghost use Rattle.pipeline.specs.Calls.{list_run};
 ghost use Rattle.job.specs.Reading.{job_of};
 ghost use Rattle.running.specs.Overs.{RanOver};
 ghost use Rattle.running.specs.Jobs.{JobRuns, kept};
 
 use crate::answers::{JobRun, JobRunFault};
 use bounded_log::Log;
-use checking::{FittedJob, JobFigures, fit_job};
+use checking::{FittedJob, fit_job};
 use effect::Retirement;
-use fit::Fitted;
-use image::Image;
-use layout::Layout;
 use memory::LentWords;
 use moves::MoveList;
 use pipeline::Pipeline;
@@ -21,6 +17,7 @@ use pipes::{RunFigures, RunRefusal};
 use unit::Unit;
 
 /// Runs moves over lent words: the first 65,536 of them are the memory, and the others stay.
+// A function of its own, so that what the words hold when the loan ends has a name.
 fn run_over<'a, U: Unit>(
     pipeline: &mut Pipeline<'a>,
     moves: &MoveList<'_>,
@@ -28,7 +25,7 @@ fn run_over<'a, U: Unit>(
     words: &mut [u32],
     log: &mut Log<'_, Retirement>,
 ) -> Result<RunFigures, RunRefusal>
-    ensures ran { RanOver (run_of (world_of (U.Unit.table unit.now) pipeline.old.image) (sets_in pipeline.old.layout.parts) pipeline.old.pipes (take 65536 words.old) (moves_in moves.now.parts) (length log.old.places.now - log.old.count)) pipeline.new.pipes (take 65536 words.new) log.old log.new result }
+    ensures ran { RanOver (list_run (U.Unit.table unit.now) pipeline.old (take 65536 words.old) (moves_in moves.now) (room log.old)) pipeline.new.pipes (take 65536 words.new) log.old log.new result }
     ensures beyond { drop 65536 words.new ≡ drop 65536 words.old }
 {
     let mut memory = LentWords::new(words);
@@ -43,25 +40,20 @@ pub fn run_job<U: Unit>(
     words: &mut [u32],
     log: &mut Log<'_, Retirement>,
 ) -> Result<JobRun, JobRunFault>
-    ensures value { JobRuns (U.Unit.table unit.now) U.Unit.known words.old (length log.old.places.now - log.old.count) (job_of bytes.now) result }
+    ensures value { JobRuns (U.Unit.table unit.now) U.Unit.KNOWN words.old (room log.old) (job_of bytes.now) result }
     ensures words { words.new ≡ (kept words.old log.old.places.now log.old.count (U.Unit.table unit.now) (job_of bytes.now) result).words_are }
     ensures places { log.new.places.now ≡ (kept words.old log.old.places.now log.old.count (U.Unit.table unit.now) (job_of bytes.now) result).places_are }
     ensures count { log.new.count ≡ (kept words.old log.old.places.now log.old.count (U.Unit.table unit.now) (job_of bytes.now) result).count_is }
     ensures root { log.new.places.ghost_name ≡ log.old.places.ghost_name }
 {
-    let FittedJob { fitted, moves } = match fit_job::<U>(bytes) {
-        Ok(job) => job,
-        Err(fault) => return Err(JobRunFault::Check(fault)),
-    };
-    let moves = MoveList { parts: moves };
-    let mut pipeline = Pipeline::build(Fitted { parts: fitted });
-    let job = JobFigures::of(&pipeline.image(), &pipeline.layout(), &moves);
-    match run_over(&mut pipeline, &moves, unit, words, log) {
-        Ok(run) => Ok(JobRun {
-            job,
-            run,
-            halted: pipeline.halted(),
-        }),
-        Err(fault) => Err(JobRunFault::Run(fault)),
-    }
+    let fitted_job = fit_job::<U>(bytes)?;
+    let job = fitted_job.figures();
+    let FittedJob { fitted, moves } = fitted_job;
+    let mut pipeline = Pipeline::build(fitted);
+    let run = run_over(&mut pipeline, &moves, unit, words, log)?;
+    Ok(JobRun {
+        job,
+        run,
+        halted: pipeline.halted(),
+    })
 }

@@ -1,17 +1,14 @@
 -- The sequential machine: one instruction at a time.
-use Rattle.std.specs.Prelude.{ℕ, zero, suc, Bool, true, false, cond, List, [], ◌∷◌, ◌++◌, length, take, drop, replicate, Some, None, Ok, Err, Option, Result, slice_index, slice_set}
+use Rattle.std.specs.Prelude.{ℕ, zero, suc, Bool, false, ◌||◌, List, [], ◌∷◌, replicate, Some, None, Ok, Err, Option, Result, slice_index, if◌then◌else◌}
 use Rattle.std.specs.List.{slice_get}
-use Rattle.memory.specs.Words.{written}
 use Rattle.instruction.specs.declared.instructions.Instruction.{Instruction}
 use Rattle.instruction.specs.declared.instructions.Operand.{Operand}
 use Rattle.instruction.specs.declared.instructions.Operand.TheVariants.{Register, Literal}
-use Rattle.instruction.specs.declared.instructions.Operands.{Operands}
-use Rattle.instruction.specs.Operands.{operands_of}
-use Rattle.effect.specs.declared.actions.Action.{Action}
-use Rattle.effect.specs.declared.actions.Action.TheVariants.{Nothing, SetRegister, StoreWord, Trap, Halt}
+use Rattle.instruction.specs.Operands.{operands_at}
 use Rattle.effect.specs.declared.actions.Effect.{Effect}
 use Rattle.effect.specs.declared.actions.Retirement.{Retirement}
 use Rattle.effect.specs.declared.actions.Sources.{Sources}
+use Rattle.effect.specs.Changes.{halts, registers_after, words_after}
 use Rattle.effect.specs.Effects.{Table, effect_of}
 use Rattle.stepper.specs.declared.state.StepFault.{StepFault}
 use Rattle.stepper.specs.declared.state.StepFault.TheVariants.{Halted}
@@ -40,10 +37,6 @@ word_of registers None = 0
 word_of registers (Some (Register register)) = slice_index registers register.number
 word_of registers (Some (Literal word)) = word
 
-abbrev pub operands_at : Option Instruction → Operands
-operands_at None = record { first = None; second = None }
-operands_at (Some instruction) = operands_of instruction
-
 abbrev pub sources_of : List ℕ → Option Instruction → Sources
 sources_of registers found = record { first = word_of registers (operands_at found).first; second = word_of registers (operands_at found).second }
 
@@ -55,20 +48,18 @@ found_at W S = slice_get W.program S.place
 abbrev pub effect_at : World → State → Effect
 effect_at W S = effect_of W.table S.words W.handler (record { place = S.place; instruction = found_at W S }) (sources_of S.registers (found_at W S))
 
-abbrev changed : Action → ℕ → State → State
-changed Nothing next S = record { place = next; registers = S.registers; words = S.words; halted = S.halted }
-changed (SetRegister register word) next S = record { place = next; registers = slice_set S.registers register.number word; words = S.words; halted = S.halted }
-changed (StoreWord address word) next S = record { place = next; registers = S.registers; words = written S.words address word; halted = S.halted }
-changed (Trap word) next S = record { place = next; registers = slice_set S.registers 15 word; words = S.words; halted = S.halted }
-changed Halt next S = record { place = next; registers = S.registers; words = S.words; halted = true }
-
 -- the state after an effect
 abbrev pub applied : Effect → State → State
-applied effect S = changed effect.action effect.next S
+applied effect S = record {
+  place = effect.next;
+  registers = registers_after effect.action S.registers;
+  words = words_after effect.action S.words;
+  halted = halts effect.action || S.halted;
+}
 
 -- the state after one more step: as it was, once halted
 abbrev pub stepped : World → State → State
-stepped W S = cond S.halted S (applied (effect_at W S) S)
+stepped W S = if S.halted then S else applied (effect_at W S) S
 
 -- the record of the next instruction
 abbrev pub retired : World → State → Retirement
@@ -76,7 +67,7 @@ retired W S = record { place = S.place; action = (effect_at W S).action }
 
 -- what a step answers
 abbrev pub answer_of : World → State → Result Retirement StepFault
-answer_of W S = cond S.halted (Err Halted) (Ok (retired W S))
+answer_of W S = if S.halted then Err Halted else Ok (retired W S)
 
 -- the state after so many steps
 abbrev pub execution : World → ℕ → State → State
@@ -86,8 +77,4 @@ execution W (suc n) S = execution W n (stepped W S)
 -- the records of at most so many steps
 abbrev pub records : World → ℕ → State → List Retirement
 records W zero S = []
-records W (suc n) S = cond S.halted [] (retired W S ∷ records W n (stepped W S))
-
--- places that are overwritten by records, from the count on
-abbrev pub logged : List Retirement → ℕ → List Retirement → List Retirement
-logged places count made = take count places ++ (made ++ drop (length made) (drop count places))
+records W (suc n) S = if S.halted then [] else retired W S ∷ records W n (stepped W S)

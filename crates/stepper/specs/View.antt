@@ -1,22 +1,20 @@
 -- A stepper and the words of its memory, as a state of the sequential machine.
-use Rattle.std.specs.Prelude.{◌≡◌, ℕ, ◌+◌, ◌-◌, List, length}
+use Rattle.std.specs.Prelude.{◌≡◌, ℕ, ◌+◌, List, length}
 use Rattle.bounded_log.specs.declared.places.Log.{Log}
+use Rattle.bounded_log.specs.Entries.{logged}
+use Rattle.bounded_log.specs.Room.{room}
 use Rattle.effect.specs.declared.actions.Retirement.{Retirement}
 use Rattle.image.specs.declared.images.Image.{Image}
 use Rattle.image.specs.Meaning.{program}
 use Rattle.effect.specs.Effects.{Table}
 use Rattle.stepper.specs.declared.state.Stepper.{Stepper}
-use Rattle.stepper.specs.Machine.{World, State, execution, records, logged}
+use Rattle.stepper.specs.Machine.{World, State, execution, records}
 
 abbrev pub world_of : Table → Image → World
-world_of table image = record { table = table; program = program image.parts; handler = image.parts.head.handler }
+world_of table image = record { table = table; program = program image; handler = image.head.handler }
 
 abbrev pub view : Stepper → List ℕ → State
 view stepper words = record { place = stepper.place; registers = stepper.registers; words = words; halted = stepper.halted }
-
--- how many places of a log are free
-abbrev pub room : Log Retirement → ℕ
-room log = length log.places.now - log.count
 
 -- What a run does: as many steps as the log has free places, or those up to the halt. Their records
 -- are logged, and the stepper and the words are those of the execution after these steps.

@@ -1,5 +1,5 @@
 ghost use Rattle.std.specs.Prelude.{◌≡◌, ℕ, List, slice_index};
-ghost use Rattle.stepper.specs.Machine.{step_number, start, word_of, operands_at, sources_of};
+ghost use Rattle.stepper.specs.Machine.{step_number, start, word_of, sources_of};
 ghost use Rattle.stepper.specs.View.{view};
 
 use crate::state::{StepFault, Stepper};
@@ -7,14 +7,13 @@ use effect::Sources;
 use image::Image;
 use instruction::{Instruction, Operand, Operands, Register};
 
+// One cast for each enum: a trait would ask for the same line in an impl of each.
 impl StepFault {
     /// The refusal's number.
     pub fn number(self) -> u8
         ensures { result ≡ step_number self }
     {
-        match self {
-            StepFault::Halted => 30,
-        }
+        self as u8
     }
 }
 
@@ -55,12 +54,10 @@ impl<'a> Stepper<'a> {
     fn word(&self, operand: Option<Operand>) -> u32
         ensures { result ≡ word_of self.now.registers operand }
     {
-        let Some(operand) = operand else {
-            return 0;
-        };
         match operand {
-            Operand::Register(register) => self.register(register),
-            Operand::Literal(word) => word,
+            Some(Operand::Register(register)) => self.register(register),
+            Some(Operand::Literal(word)) => word,
+            None => 0,
         }
     }
 
@@ -68,16 +65,10 @@ impl<'a> Stepper<'a> {
     pub(crate) fn sources(&self, instruction: Option<Instruction>) -> Sources
         ensures { result ≡ sources_of self.now.registers instruction }
     {
-        let operands = match instruction {
-            Some(instruction) => instruction.operands(),
-            None => Operands {
-                first: None,
-                second: None,
-            },
-        };
+        let Operands { first, second } = Operands::of(instruction);
         Sources {
-            first: self.word(operands.first),
-            second: self.word(operands.second),
+            first: self.word(first),
+            second: self.word(second),
         }
     }
 }

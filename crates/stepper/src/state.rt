@@ -5,7 +5,7 @@ use image::Image;
 /// Why a step is refused: a halt was executed.
 #[derive(Clone, Copy, Debug, PartialEq)]
 pub enum StepFault {
-    Halted,
+    Halted = 30,
 }
 
 /// An image, and how far its execution has come.
@@ -15,5 +15,7 @@ pub struct Stepper<'a> {
     pub(crate) place: u32,
     pub(crate) registers: [u32; 16],
     pub(crate) halted: bool,
+
+    // In a definition an array is a list of any length, so this says which.
     ghost full: { length registers ≡ 16 },
 }

@@ -4,8 +4,7 @@ ghost use Rattle.stepper.specs.View.{view, world_of, Ran};
 
 use crate::state::{StepFault, Stepper};
 use bounded_log::Log;
-use effect::{Action, Effect, Fetched, Retirement};
-use instruction::Register;
+use effect::{Effect, Fetched, Retirement};
 use memory::{Memory, Readable};
 use unit::Unit;
 
@@ -14,19 +13,11 @@ impl<'a> Stepper<'a> {
     fn apply<M: Memory>(&mut self, effect: Effect, memory: &mut M)
         ensures after { view self.new (M.Readable.words memory.new) ≡ applied effect (view self.old (M.Readable.words memory.old)) }
         ensures image { self.new.image ≡ self.old.image }
-        ensures rooted { M.Memory.roots memory.new ≡ M.Memory.roots memory.old }
-        ensures beyond { M.Memory.beyond memory.new ≡ M.Memory.beyond memory.old }
+        ensures kept { M.Memory.kept memory.new ≡ M.Memory.kept memory.old }
     {
+        effect.action.apply(&mut self.registers, memory);
         self.place = effect.next;
-        match effect.action {
-            Action::Nothing => {}
-            Action::SetRegister { register, word } => self.registers[register.index()] = word,
-            Action::StoreWord { address, word } => {
-                let _ = memory.write(address, word);
-            }
-            Action::Trap { word } => self.registers[15] = word,
-            Action::Halt => self.halted = true,
-        }
+        self.halted = effect.action.halts() || self.halted;
     }
 
     /// Executes the next instruction; refused after a halt, with everything as it stood.
@@ -38,8 +29,7 @@ impl<'a> Stepper<'a> {
         ensures value { result ≡ answer_of (world_of (U.Unit.table unit.now) self.old.image) (view self.old (M.Readable.words memory.old)) }
         ensures after { view self.new (M.Readable.words memory.new) ≡ stepped (world_of (U.Unit.table unit.now) self.old.image) (view self.old (M.Readable.words memory.old)) }
         ensures image { self.new.image ≡ self.old.image }
-        ensures rooted { M.Memory.roots memory.new ≡ M.Memory.roots memory.old }
-        ensures beyond { M.Memory.beyond memory.new ≡ M.Memory.beyond memory.old }
+        ensures kept { M.Memory.kept memory.new ≡ M.Memory.kept memory.old }
     {
         if self.halted {
             return Err(StepFault::Halted);
@@ -58,9 +48,7 @@ impl<'a> Stepper<'a> {
             action: effect.action,
         })
     }
-}
 
-impl<'a> Stepper<'a> {
     /// Steps until the halt or until the log is full, logs each step's record, and answers the
     /// number of steps.
     pub fn run<U: Unit, M: Memory>(
@@ -70,17 +58,14 @@ impl<'a> Stepper<'a> {
         log: &mut Log<'_, Retirement>,
     ) -> usize
         ensures ran { Ran (U.Unit.table unit.now) self.old self.new (M.Readable.words memory.old) (M.Readable.words memory.new) log.old log.new result }
-        ensures rooted { M.Memory.roots memory.new ≡ M.Memory.roots memory.old }
-        ensures beyond { M.Memory.beyond memory.new ≡ M.Memory.beyond memory.old }
+        ensures kept { M.Memory.kept memory.new ≡ M.Memory.kept memory.old }
     {
         let room = log.free();
         for made in 0..room {
-            match self.step(unit, memory) {
-                Ok(record) => {
-                    let _ = log.add(record);
-                }
-                Err(_) => return made,
-            }
+            let Ok(record) = self.step(unit, memory) else {
+                return made;
+            };
+            let _ = log.add(record);
         }
         room
     }

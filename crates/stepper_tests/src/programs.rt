@@ -41,13 +41,10 @@ pub(crate) fn image_of(heap: Global, handler: u16, rows: &[Row]) -> Result<Vec<u
 /// The first place at which the log holds another line than is expected, with both; none where it
 /// holds these lines.
 fn difference(log: &[Retirement], lines: &[Line]) -> Option<(Line, Line)> {
-    for (record, line) in log.iter().zip(lines) {
-        let found = line_of(*record);
-        if found != *line {
-            return Some((found, *line));
-        }
-    }
-    None
+    log.iter()
+        .zip(lines)
+        .map(|(record, line)| (line_of(*record), *line))
+        .find(|(found, line)| found != line)
 }
 
 /// The bytes, executed over the words, make so many steps, halt or not, and leave these lines.

@@ -2,6 +2,7 @@
 use crate::programs::{HALT, Line, UNUSED, leaves, rows_leave};
 use bounded_log::Log;
 use execution::execute;
+use fields::Refusal;
 use std::test::Fail;
 use unit::WholeNumber;
 
@@ -112,7 +113,7 @@ fn refused_image(rt: HostRuntime) -> Result<(), Fail> {
     let Err(fault) = execute(bytes, &WholeNumber, &mut words, &mut Log::new(&mut log)) else {
         return Err(Fail::new("operation 7 is not in the table"));
     };
-    let refusal = fault.refusal();
+    let refusal = Refusal::from(fault);
     assert_eq!(rt; (refusal.number, refusal.place), (7, 17), "record 1");
     assert_eq!(rt;
         (words, log),

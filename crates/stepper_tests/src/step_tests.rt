@@ -1,6 +1,6 @@
 //! Single steps, and the state between them.
 use crate::programs::{HALT, Line, Row, image_of, line_of};
-use image::{Image, read_image};
+use image::read_image;
 use instruction::Register;
 use memory::{OwnWords, Readable};
 use std::alloc::Global;
@@ -24,10 +24,10 @@ fn state_of(stepper: &Stepper<'_>, memory: &OwnWords) -> State {
 
 /// The line of a step, or the number of its refusal.
 fn line_or_refusal(stepper: &mut Stepper<'_>, memory: &mut OwnWords) -> Result<Line, u8> {
-    match stepper.step(&WholeNumber, memory) {
-        Ok(record) => Ok(line_of(record)),
-        Err(fault) => Err(fault.number()),
-    }
+    stepper
+        .step(&WholeNumber, memory)
+        .map(line_of)
+        .map_err(|fault| fault.number())
 }
 
 /// The state before each step of the rows, from the start, and the step's answer.
@@ -38,8 +38,8 @@ fn steps_are(
     table: &[(State, Result<Line, u8>)],
 ) -> Result<(), Fail> {
     let bytes = image_of(heap, handler, rows)?;
-    let (parts, _) = read_image(&bytes)?;
-    let mut stepper = Stepper::new(Image { parts });
+    let (image, _) = read_image(&bytes)?;
+    let mut stepper = Stepper::new(image);
     let mut memory = OwnWords::new();
     for row in table {
         let state = state_of(&stepper, &memory);
@@ -135,8 +135,8 @@ fn refused_after_the_halt(rt: HostRuntime) -> Result<(), Fail> {
 
 #[test]
 fn every_register_is_0_at_the_start(rt: HostRuntime) -> Result<(), Fail> {
-    let (parts, _) = read_image(b"CFP\0\x01\0\x01\0\0\0\0\0\0\0\0\0\0")?;
-    let stepper = Stepper::new(Image { parts });
+    let (image, _) = read_image(b"CFP\0\x01\0\x01\0\0\0\0\0\0\0\0\0\0")?;
+    let stepper = Stepper::new(image);
     for number in 0..16u8 {
         assert_eq!(rt;
             (number, stepper.register(Register::named(number))),

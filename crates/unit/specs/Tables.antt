@@ -1,8 +1,12 @@
 -- The table of a unit that looks words up.
-use Rattle.std.specs.Prelude.{ℕ, cond, List, eqb, ltb, length, get_or}
-use Rattle.unit.specs.declared.outcome.Outcome.{Outcome}
-use Rattle.unit.specs.declared.outcome.Outcome.TheVariants.{Word, Fault}
+use Rattle.std.specs.Prelude.{ℕ, List, length, Ok, Result, ◌==◌, nat_lt, slice_index, if◌then◌else◌}
+use Rattle.unit.specs.declared.outcome.Fault.{Fault}
+use Rattle.unit.specs.Faults.{faulty}
 
--- operation 0: the word at an address, or fault 2 outside; any other operation: fault 15
-abbrev pub table_of : List ℕ → ℕ → ℕ → Outcome
-table_of words operation a = cond (eqb operation 0) (cond (ltb a (length words)) (Word (get_or words a 0)) (Fault 2)) (Fault 15)
+-- the word at an address, or fault 2 outside
+abbrev pub looked_up : List ℕ → ℕ → Result ℕ Fault
+looked_up words a = if nat_lt a (length words) then Ok (slice_index words a) else faulty 2
+
+-- operation 0 looks up; any other operation: fault 15
+abbrev pub table_of : List ℕ → ℕ → ℕ → Result ℕ Fault
+table_of words operation a = if operation == 0 then looked_up words a else faulty 15

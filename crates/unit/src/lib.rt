@@ -1,7 +1,7 @@
 //! Units: what computes the outcome of an operation on two words.
 #![tactic(auto)]
 
-pub use outcome::Outcome;
+pub use outcome::{Fault, Outcome};
 pub use table::WordTable;
 pub use traits::Unit;
 pub use whole::WholeNumber;

@@ -1,8 +1,7 @@
-ghost use Rattle.std.specs.Prelude.{◌≡◌, false, ℕ};
-ghost use Rattle.unit.specs.declared.outcome.Outcome.{Outcome};
-ghost use Rattle.unit.specs.declared.outcome.Outcome.TheVariants.{Fault};
+ghost use Rattle.std.specs.Prelude.{◌≡◌, ℕ, false, Result};
+ghost use Rattle.unit.specs.declared.outcome.Fault.{Fault};
 ghost use Rattle.fields.specs.Numbers.{holds};
-ghost use Rattle.unit.specs.Faults.{FaultInRange};
+ghost use Rattle.unit.specs.Faults.{FaultInRange, faulty};
 
 use crate::outcome::Outcome;
 
@@ -11,17 +10,13 @@ pub trait Unit {
     /// The operations that the unit knows: bit k stands for operation k.
     const KNOWN: u16;
 
-    // A clause cannot read the constant, so this says its value, and `operations` ties the two.
-    ghost known: { ℕ };
+    ghost KNOWN: { ℕ };
 
-    ghost table: { Self → ℕ → ℕ → ℕ → Outcome };
-
-    fn operations() -> u16
-        ensures { result ≡ known };
+    ghost table: { Self → ℕ → ℕ → ℕ → Result ℕ Fault };
 
     /// Asks for the outcome of an operation. Asking changes nothing.
     fn ask(&self, operation: u8, a: u32, b: u32) -> Outcome
         ensures value { result ≡ table self.now operation a b }
         ensures fault { FaultInRange result }
-        ensures unknown { holds known operation ≡ false → result ≡ Fault 15 };
+        ensures unknown { holds KNOWN operation ≡ false → result ≡ faulty 15 };
 }

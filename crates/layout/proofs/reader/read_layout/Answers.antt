@@ -1,28 +1,15 @@
-use Rattle.std.proofs.Common.{ℕ, ◌+◌, ◌*◌, not, List, drop, is_some, Some, None, Ok, Option, sym, ap, ◌∙◌, arith}
-use Rattle.fields.proofs.Cuts.{cut_front, cut_back}
-use Rattle.layout.specs.declared.faults.LayoutFault.{LayoutFault}
-use Rattle.layout.specs.Reading.{Contents, fault_in, sets_of}
-use Rattle.layout.proofs.Heads.{bounds, decided}
+use Rattle.std.proofs.Common.{◌≡◌, Err, rules}
+use Rattle.layout.specs.Reading.{layout_of}
+use Rattle.layout.proofs.Heads.{was_read, read_so, read_not}
 use Rattle.layout.proofs.reader.read_layout.Goals as goal
 
-pub returns-in-Some : goal.returns-in-Some
-returns-in-Some c =
-    let bs = c.args.bytes.now in
-    let n = c.in_ok-stages.stages in
-    let front = c.split_at.ensures.front ∙ cut_front bs 6 (4 * n) in
-    let found = c.in-Some.ensures ∙ ap (fault_in n n 0) front in
-    record { value = decided bs n (Some c.in-Some.fault) c.in_ok-stages.ensures (omega arith) found; read = tt }
+pub returns-in_err-map_err : goal.returns-in_err-map_err
+returns-in_err-map_err c =
+    let told : layout_of c.args.bytes.now ≡ Err c.in_err-map_err.field-0.0 = read_not _ _ _ _ _ c.in_ok-stages.ensures (rw c.from.ensures at c.in-Some.ensures.cases) (rw c.from-2.ensures at c.first_fault-judged.ensures.value) _ _ _ c.map_err.ensures.cases c.in_err-map_err.was (λ f g m. search rules) in
+    search rules
 
-pub returns-in-None : goal.returns-in-None
-returns-in-None c =
-    let bs = c.args.bytes.now in
-    let n = c.in_ok-stages.stages in
-    let b = bounds bs n c.in_ok-stages.ensures in
-    let front = c.split_at.ensures.front ∙ cut_front bs 6 (4 * n) in
-    let back = c.split_at.ensures.back ∙ cut_back bs 6 (4 * n) in
-    let found = c.in-None.ensures ∙ ap (fault_in n n 0) front in
-    let told : List ℕ → List ℕ → Contents = λ xs ys. record { sets = sets_of n xs; rest = ys } in
-    record {
-      value = decided bs n None c.in_ok-stages.ensures (omega arith) found ∙ ap Ok (ap (λ (xs : List ℕ). told xs (drop (6 + 4 * n) bs)) (sym front) ∙ ap (told c.split_at.result.0.now) (sym back));
-      read = (b.low, b.high, c.split_at.ensures.front_len, ap (λ (o : Option LayoutFault). not (is_some o)) (sym c.in-None.ensures));
-    }
+pub invariant_of-result : goal.invariant_of-result
+invariant_of-result c = record { read = was_read c.args.bytes.now _ _ _ _ c.in_ok-stages.ensures (rw c.from.ensures at c.in-Some.ensures.cases) (rw c.from-2.ensures at c.first_fault-judged.ensures.value) c.in_ok-map_err.ensures.variant }
+
+pub returns : goal.returns
+returns c = read_so _ _ _ _ _ c.in_ok-stages.ensures (rw c.from.ensures at c.in-Some.ensures.cases) (rw c.from-2.ensures at c.first_fault-judged.ensures.value) c.in_ok-map_err.ensures.variant

@@ -4,6 +4,7 @@ use Rattle.stepper.specs.View.{world_of}
 use Rattle.pipes.specs.declared.state.Pipes.{Pipes}
 use Rattle.pipes.specs.Questions.{stage_at}
 use Rattle.pipes.proofs.Stays.{refused_stays, others_stay}
+use Rattle.pipes.specs.Moving.{Moved}
 use Rattle.draining.specs.Sound.{Sound}
 use Rattle.draining.proofs.Keeping.{moved_sound}
 use Rattle.agreement.proofs.Layouts.{read_laid}
@@ -13,28 +14,26 @@ pub returns : goal.returns
 returns g c =
     let before = c.args.self.now in
     let W = world_of (g.U.Unit.table c.args.unit.now) before.image in
-    let sets = sets_in before.layout.parts in
+    let sets = sets_in before.layout in
     let words = g.M.Readable.words c.args.memory.now in
     let made = c.make_move.ensures in
+    let pipes = ap (λ (x : Moved). x.pipes) made.made in
     record {
-      value = made.value;
-      pipes = made.pipes;
-      words = made.words;
+      made = made.made;
       image = refl;
       layout = refl;
       refused = λ f e.
-          let stays = refused_stays W sets before.pipes words c.args.kind c.args.place f (sym made.value ∙ e) in
-          (made.pipes ∙ stays.0, made.words ∙ stays.1);
-      others = λ k apart. ap (λ (P : Pipes). stage_at P k) made.pipes ∙ others_stay W sets before.pipes words k c.args.kind c.args.place apart;
-      rooted = made.rooted;
-      beyond = made.beyond;
+          let stays = refused_stays W sets before.pipes words c.args.kind c.args.place f (sym (ap (λ (x : Moved). x.answer) made.made) ∙ e) in
+          (pipes ∙ stays.0, ap (λ (x : Moved). x.words) made.made ∙ stays.1);
+      others = λ k apart. ap (λ (P : Pipes). stage_at P k) pipes ∙ others_stay W sets before.pipes words k c.args.kind c.args.place apart;
+      kept = made.kept;
     }
 
 pub invariant_of-self : goal.invariant_of-self
 invariant_of-self g c =
     let before = c.args.self.now in
-    let sets = sets_in before.layout.parts in
-    let laid = read_laid before.layout.parts before.layout.read in
+    let sets = sets_in before.layout in
+    let laid = read_laid before.layout in
     let W = world_of (g.U.Unit.table c.args.unit.now) before.image in
     let kept = moved_sound W sets before.pipes (g.M.Readable.words c.args.memory.now) before.fits laid.low laid.high before.sound c.args.kind c.args.place in
-    record { fits = before.fits; sound = subst (λ (P : Pipes). Sound sets P) (sym c.make_move.ensures.pipes) kept }
+    record { fits = before.fits; sound = subst (λ (P : Pipes). Sound sets P) (sym (ap (λ (x : Moved). x.pipes) c.make_move.ensures.made)) kept }
