@@ -6,26 +6,26 @@ use Rattle.fields.proofs.Scans.{length-entries, get_or-entries, sound_at}
 use Rattle.layout.specs.declared.layouts.Layout.{Layout}
 use Rattle.layout.specs.Able.{able}
 use Rattle.layout.specs.Meaning.{sets_in}
-use Rattle.layout.specs.Reading.{memoryless, set_fault, set_fault_at, fault_in, set_in, sets_of}
+use Rattle.layout.specs.Reading.{memoryless, set_wrong, set_wrong_at, fault_in, set_in, sets_of}
 use Rattle.agreement.specs.Layouts.{MemoryAtTop, Laid}
 
 -- bits 5 and 6 of a set without loads and stores are 0
 bits_clear : (set : ℕ) → memoryless set ≡ true → (holds set 5 ≡ false) × (holds set 6 ≡ false)
 bits_clear set h = grind (arith, nat_tests)
 
-sound_set : (n s set : ℕ) → s + 1 < n → set_fault n s set ≡ None → memoryless set ≡ true
+sound_set : (n s set : ℕ) → s + 1 < n → set_wrong n s set ≡ None → memoryless set ≡ true
 sound_set n s set l h = grind (arith, nat_tests)
 
 unable : (sets : List ℕ) (s operation : ℕ) → holds (get_or sets s 0) operation ≡ false → able sets s operation ≡ false
 unable sets s operation h = grind arith
 
-module _ (n : ℕ) (bytes : List ℕ) (sound : not (is_some (fault_in n n 0 bytes)) ≡ true) where
+module _ (n : ℕ) (bytes : List ℕ) (sound : not (is_some (fault_in n n bytes)) ≡ true) where
   read_memory : MemoryAtTop (sets_of n bytes)
   read_memory s l =
       let count = length-entries set_in 4 n bytes in
       let here : s < n = omega arith in
       let is = get_or-entries set_in 4 n s bytes 0 here in
-      let clear = bits_clear (set_in (drop (4 * s) bytes)) (sound_set n s (set_in (drop (4 * s) bytes)) (omega arith) (sound_at (set_fault_at n) 4 n s bytes here sound)) in (
+      let clear = bits_clear (set_in (drop (4 * s) bytes)) (sound_set n s (set_in (drop (4 * s) bytes)) (omega arith) (sound_at (set_wrong_at n) 4 n s bytes here sound)) in (
         unable (sets_of n bytes) s 5 (ap (λ set. holds set 5) is ∙ clear.0),
         unable (sets_of n bytes) s 6 (ap (λ set. holds set 6) is ∙ clear.1),
       )

@@ -32,24 +32,35 @@ pub record Equal (P P' : Pipes) (words words' : List ℕ) (rs rs' : List Retirem
   pub same_mark : P.halted ≡ P'.halted
   pub same_records : rs ≡ rs'
 
--- One image, two tables that are alike, two layouts, the same words at the start: whatever calls were made of the one
--- pipeline and of the other, where they have given equally many records nothing tells them apart.
+-- One image, two tables that are alike, two layouts, the same words at the start: whatever calls were
+-- made of the one pipeline and of the other, where they have given equally many records nothing tells
+-- them apart.
 abbrev pub Agreement : Type 0
 Agreement =
-    (table other : Table) (program : List Instruction) (handler : ℕ) → Alike table other → (sets sets' : List ℕ) → Laid sets → Laid sets' →
+    (table other : Table) (program : List Instruction) (handler : ℕ) → Alike table other →
+    (sets sets' : List ℕ) → Laid sets → Laid sets' →
     (first : List ℕ) (P P' : Pipes) (words words' : List ℕ) (rs rs' : List Retirement) →
-    Succession (world table program handler) sets first P words rs → Succession (world other program handler) sets' first P' words' rs' →
+    Succession (world table program handler) sets first P words rs →
+    Succession (world other program handler) sets' first P' words' rs' →
     length rs ≡ length rs' →
-    Equal P P' words words' rs rs' × Sequential (world table program handler) first P words rs × Sequential (world other program handler) first P' words' rs'
+    Equal P P' words words' rs rs' ×
+    Sequential (world table program handler) first P words rs ×
+    Sequential (world other program handler) first P' words' rs'
 
 -- a drain with room enough is not refused, and its record is the next of the execution
-abbrev pub DrawsNext : World → List ℕ → List ℕ → Pipes → List ℕ → List Retirement → List Move → Pipes → List ℕ → Result Drain DrainRefusal → Type 0
+abbrev pub DrawsNext :
+    World → List ℕ → List ℕ → Pipes → List ℕ → List Retirement → List Move → Pipes → List ℕ →
+    Result Drain DrainRefusal → Type 0
 DrawsNext W sets first P words rs moves P' words' (Ok d) =
-    (d.moves ≡ length moves) × Drained W sets P words moves d.retirement P' words' × (d.retirement ≡ retired W (execution W (length rs) (start first)))
+    (d.moves ≡ length moves) ×
+    Drained W sets P words moves d.retirement P' words' ×
+    (d.retirement ≡ retired W (execution W (length rs) (start first)))
 DrawsNext W sets first P words rs moves P' words' (Err refusal) = ⊥
 
 abbrev pub DrainsNext : Type 0
 DrainsNext =
-    (W : World) (sets : List ℕ) → Laid sets → (first : List ℕ) (P : Pipes) (words : List ℕ) (rs : List Retirement) → Succession W sets first P words rs →
-    P.halted ≡ false → (room : ℕ) → bound (length sets) ≤ room → (answer : Result Drain DrainRefusal) (moves : List Move) (P' : Pipes) (words' : List ℕ) →
+    (W : World) (sets : List ℕ) → Laid sets →
+    (first : List ℕ) (P : Pipes) (words : List ℕ) (rs : List Retirement) → Succession W sets first P words rs →
+    P.halted ≡ false → (room : ℕ) → bound (length sets) ≤ room →
+    (answer : Result Drain DrainRefusal) (moves : List Move) (P' : Pipes) (words' : List ℕ) →
     Drains W sets P words moves P' words' room answer → DrawsNext W sets first P words rs moves P' words' answer

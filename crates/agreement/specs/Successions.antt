@@ -28,9 +28,12 @@ told (Some r) = r ∷ []
 pub data Succession (W : World) (sets : List ℕ) (first : List ℕ) : Pipes → List ℕ → List Retirement → Type 0 where
   built : Succession W sets first fresh first []
   move : {P : Pipes} {words : List ℕ} {rs : List Retirement} → Succession W sets first P words rs → (kind place : ℕ) →
-      Succession W sets first (moved W sets P words kind place).pipes (moved W sets P words kind place).words (rs ++ told (given (moved W sets P words kind place).answer))
+      Succession W sets first (moved W sets P words kind place).pipes (moved W sets P words kind place).words
+      (rs ++ told (given (moved W sets P words kind place).answer))
   run : {P : Pipes} {words : List ℕ} {rs : List Retirement} → Succession W sets first P words rs → (moves : List Move) (room : ℕ) →
-      Succession W sets first (run_of W sets P words moves room).pipes (run_of W sets P words moves room).words (rs ++ (run_of W sets P words moves room).live)
+      Succession W sets first (run_of W sets P words moves room).pipes (run_of W sets P words moves room).words
+      (rs ++ (run_of W sets P words moves room).live)
   drain : {P : Pipes} {words : List ℕ} {rs : List Retirement} → Succession W sets first P words rs →
-      (room : ℕ) (answer : Result Drain DrainRefusal) (moves : List Move) (P' : Pipes) (words' : List ℕ) → Drains W sets P words moves P' words' room answer →
+      (room : ℕ) (answer : Result Drain DrainRefusal) (moves : List Move) (P' : Pipes) (words' : List ℕ) →
+      Drains W sets P words moves P' words' room answer →
       Succession W sets first P' words' (rs ++ told (drawn answer))

@@ -1,5 +1,6 @@
 -- The walk from the top stage to the bottom: the state that the next live packet below must execute in.
 use Rattle.std.specs.Prelude.{◌≡◌, ℕ, ◌≤◌, Bool, true, false, cond, not, ◌&&◌, List, [], ◌∷◌, length, Some, None, Option, slice_index}
+use Rattle.instruction.specs.Named.{register_number}
 use Rattle.effect.specs.declared.actions.Action.{Action}
 use Rattle.effect.specs.declared.actions.Effect.{Effect}
 use Rattle.effect.specs.Changes.{halts}
@@ -78,12 +79,12 @@ module _ (W : World) where
 abbrev pub Sourced : List ℕ → ℕ → Source → Type 0
 Sourced registers word Absent = word ≡ 0
 Sourced registers word (Literal w) = word ≡ w
-Sourced registers word (Bound b) = (word ≡ slice_index registers b.register.number) × (b.valid ≡ true → word ≡ b.word)
+Sourced registers word (Bound b) = (word ≡ slice_index registers (register_number b.register)) × (b.valid ≡ true → word ≡ b.word)
 
 -- a value is that of its register, and what turns the path turns it to the place of the state
 abbrev pub ResultAt : State → Option PipeResult → Type 0
 ResultAt S None = Unit {0}
-ResultAt S (Some (result.Value register word)) = word ≡ slice_index S.registers register.number
+ResultAt S (Some (result.Value register word)) = word ≡ slice_index S.registers (register_number register)
 ResultAt S (Some (result.WrongBranch target)) = target ≡ S.place
 ResultAt S (Some (result.Trap handler)) = handler ≡ S.place
 

@@ -1,6 +1,6 @@
 ghost use Rattle.std.specs.Prelude.{◌≡◌, length};
 ghost use Rattle.bounded_log.specs.Entries.{entry_of};
-ghost use Rattle.bounded_log.specs.Room.{entries_in, room};
+ghost use Rattle.bounded_log.specs.Room.{count_in, entries_in, room};
 
 use crate::faults::LogFault;
 use crate::places::Log;
@@ -24,7 +24,7 @@ impl<'a, T: Copy> Log<'a, T> {
 
     /// How many entries there are.
     pub fn count(&mut self) -> usize
-        ensures value { result ≡ self.old.count }
+        ensures value { result ≡ count_in self.old }
         ensures entries { result ≡ length (entries_in self.old) }
         ensures same { self.new ≡ self.old }
     {

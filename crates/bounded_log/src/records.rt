@@ -1,6 +1,6 @@
 ghost use Rattle.std.specs.Prelude.{◌≡◌, []};
 ghost use Rattle.bounded_log.specs.Entries.{added_to, count_after, add_of, grown};
-ghost use Rattle.bounded_log.specs.Room.{entries_in};
+ghost use Rattle.bounded_log.specs.Room.{loan_in, places_in, count_in, root_in, entries_in};
 
 use crate::faults::LogFault;
 use crate::places::Log;
@@ -8,20 +8,22 @@ use crate::places::Log;
 impl<'a, T: Copy> Log<'a, T> {
     /// An empty log over these places.
     pub fn new(places: &'a mut [T]) -> Log<'a, T>
-        ensures count { result.count ≡ 0 }
-        ensures places { result.places.now ≡ places.old }
-        ensures root { result.places.ghost_name ≡ places.entry.ghost_name }
+        ensures count { count_in result ≡ 0 }
+        ensures places { places_in result ≡ places.old }
+        ensures root { root_in result ≡ places.entry.ghost_name }
     {
         Log { places, count: 0 }
     }
 
     /// Adds an entry at the first free place; refused where there is none.
     pub fn add(&mut self, added: T) -> Result<(), LogFault>
-        ensures value { result ≡ add_of self.old.places.now self.old.count }
-        ensures places { self.new.places.now ≡ added_to self.old.places.now self.old.count added }
-        ensures count { self.new.count ≡ count_after self.old.places.now self.old.count }
-        ensures entries { entries_in self.new ≡ grown self.old.places.now self.old.count added }
-        ensures root { self.new.places.ghost_name ≡ self.old.places.ghost_name }
+        ensures value { result ≡ add_of (places_in self.old) (count_in self.old) }
+        ensures places { places_in self.new ≡
+            added_to (places_in self.old) (count_in self.old) added }
+        ensures count { count_in self.new ≡ count_after (places_in self.old) (count_in self.old) }
+        ensures entries { entries_in self.new ≡
+            grown (places_in self.old) (count_in self.old) added }
+        ensures root { root_in self.new ≡ root_in self.old }
     {
         // A slice's `get_mut` says nothing of the other places, so this goes by the index.
         if self.count < self.places.len() {
@@ -35,9 +37,9 @@ impl<'a, T: Copy> Log<'a, T> {
 
     /// Forgets the entries: their places are free again.
     pub fn clear(&mut self)
-        ensures count { self.new.count ≡ 0 }
+        ensures count { count_in self.new ≡ 0 }
         ensures entries { entries_in self.new ≡ [] }
-        ensures places { self.new.places ≡ self.old.places }
+        ensures places { loan_in self.new ≡ loan_in self.old }
     {
         self.count = 0;
     }

@@ -15,7 +15,8 @@ impl<'a, T: Copy + Line> Log<'a, T> {
         heap: Global,
         out: &mut String,
     ) -> Result<(), WriteFault>
-        ensures value { Writes T.Line.numbers (entries_in self.old) index result (string_bytes out.old) (string_bytes out.new) }
+        ensures value { Writes T.Line.numbers (entries_in self.old) index result
+            (string_bytes out.old) (string_bytes out.new) }
         ensures same { self.new ≡ self.old }
     {
         let record = self.entry(index)?;
@@ -27,7 +28,8 @@ impl<'a, T: Copy + Line> Log<'a, T> {
     /// Appends every entry to a text, each on a line of its own behind its number, from 1. Without
     /// the memory for it the text stays as it was.
     pub fn write_numbered(&mut self, heap: Global, out: &mut String) -> Result<(), AllocError>
-        ensures ok { OnOk result (string_bytes out.new ≡ string_bytes out.old ++ numbered T.Line.numbers 1 (entries_in self.old)) }
+        ensures ok { OnOk result (string_bytes out.new ≡
+            string_bytes out.old ++ numbered T.Line.numbers 1 (entries_in self.old)) }
         ensures err { OnErr result (string_bytes out.new ≡ string_bytes out.old) }
         ensures same { self.new ≡ self.old }
     {

@@ -24,7 +24,8 @@ abbrev pub Misfit : ℕ → Contents → CheckFault → Type 0
 Misfit known job (Job fault) = ⊥
 Misfit known job (Fit fault) = Unfit job.sets known job.program fault
 
--- a job that is read is accepted, with its figures, exactly where it fits; one that is not is refused so
+-- a job that is read is accepted, with its figures, exactly where it fits; one that is not is
+-- refused so
 abbrev pub Checked : ℕ → Result Contents JobFault → Result JobFigures CheckFault → Type 0
 Checked known (Err fault) (Ok figures) = ⊥
 Checked known (Err fault) (Err refused) = refused ≡ Job fault

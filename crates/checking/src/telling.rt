@@ -27,7 +27,6 @@ impl From<CheckFault> for Refusal {
 
 impl JobFigures {
     /// The figures of a job's three parts.
-    #[tactic(auto, using(image::proofs::Programs::program_length))]
     pub fn of(image: &Image<'_>, layout: &Layout<'_>, moves: &MoveList<'_>) -> JobFigures
         ensures { result ≡ sizes (program image.now) (sets_in layout.now) (moves_in moves.now) }
     {

@@ -1,5 +1,6 @@
 -- Which move a drain makes next.
 use Rattle.std.specs.Prelude.{ℕ, zero, suc, ◌+◌, Bool, cond, List, length, take, position, is_some, Some, None, Option, ◌==◌, slice_index_or}
+use Rattle.instruction.specs.Named.{register_number}
 use Rattle.moves.specs.declared.kinds.Move.{Move}
 use Rattle.moves.specs.declared.kinds.MoveKind.{MoveKind}
 use Rattle.moves.specs.declared.kinds.MoveKind.TheVariants.{Fetch, Raise, Lower, Execute, Insert, Read, Retire, Drop}
@@ -31,7 +32,7 @@ highest xs (suc s) = cond (is_some (slice_index_or xs s vacant).packet) (Some s)
 abbrev pub awaits : Source → Option ℕ
 awaits Absent = None
 awaits (Literal word) = None
-awaits (Bound binding) = cond binding.valid None (Some binding.register.number)
+awaits (Bound binding) = cond binding.valid None (Some (register_number binding.register))
 
 abbrev pub first_of : Option ℕ → Option ℕ → Option ℕ
 first_of (Some r) second = Some r

@@ -32,7 +32,8 @@ fn fetch() -> Move
 
 /// What the highest packet wants; without a packet, a fetch.
 fn upward(pipes: &Pipes, layout: &Layout<'_>) -> Move
-    ensures { result ≡ upward (sets_in layout.now) pipes.now (highest pipes.now.stages (length (sets_in layout.now))) }
+    ensures { result ≡ upward (sets_in layout.now) pipes.now
+        (highest pipes.now.stages (length (sets_in layout.now))) }
 {
     let Some(stage) = highest(pipes, layout) else {
         return fetch();

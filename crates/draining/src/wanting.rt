@@ -1,5 +1,6 @@
 ghost use Rattle.std.specs.Prelude.{◌≡◌, ◌+◌};
 ghost use Rattle.std.specs.Option.{option_map};
+ghost use Rattle.instruction.specs.Named.{register_number};
 ghost use Rattle.layout.specs.Meaning.{sets_in};
 ghost use Rattle.pipes.specs.Questions.{some_able};
 ghost use Rattle.draining.specs.Policy.{awaits, missing, onward, wants_word, wants};
@@ -12,7 +13,7 @@ use pipes::some_able;
 
 /// The register whose word a source still misses.
 fn awaits(source: Source) -> Option<Register>
-    ensures { option_map (λ r. r.number) result ≡ awaits source }
+    ensures { option_map register_number result ≡ awaits source }
 {
     match source {
         Source::Bound(binding) if !binding.valid => Some(binding.register),
@@ -22,7 +23,7 @@ fn awaits(source: Source) -> Option<Register>
 
 /// The register whose word a packet still misses.
 fn missing(packet: &Packet) -> Option<Register>
-    ensures { option_map (λ r. r.number) result ≡ missing packet.now }
+    ensures { option_map register_number result ≡ missing packet.now }
 {
     awaits(packet.first).or_else(|| awaits(packet.second))
 }
@@ -44,10 +45,11 @@ fn onward(layout: &Layout<'_>, stage: u8) -> Move
     }
 }
 
-/// A packet that waits reads a word that it misses; with all of them it executes in the last stage that
-/// can.
+/// A packet that waits reads a word that it misses; with all of them it executes in the last stage
+/// that can.
 fn wants_word(packet: &Packet, layout: &Layout<'_>, stage: u8) -> Move
-    ensures { result ≡ wants_word (missing packet.now) (some_able (sets_in layout.now) (stage + 1) packet.now.fetched.instruction) stage }
+    ensures { result ≡ wants_word (missing packet.now)
+        (some_able (sets_in layout.now) (stage + 1) packet.now.fetched.instruction) stage }
 {
     let (kind, place) = match missing(packet) {
         Some(register) => (MoveKind::Read, register.number()),

@@ -7,6 +7,7 @@ use Rattle.instruction.specs.declared.numbers.Register.{Register}
 use Rattle.instruction.specs.declared.numbers.UnitOp.{UnitOp}
 use Rattle.instruction.specs.declared.instructions.Instruction.{Instruction}
 use Rattle.instruction.specs.declared.instructions.Instruction.TheVariants as instruction
+use Rattle.instruction.specs.Named.{unit_op_number}
 use Rattle.effect.specs.declared.actions.Action.{Action}
 use Rattle.effect.specs.declared.actions.Action.TheVariants.{Nothing, SetRegister, StoreWord, Trap, Halt}
 use Rattle.effect.specs.declared.actions.Effect.{Effect}
@@ -50,7 +51,8 @@ computed handler place destination (Err fault) = trapped (16 + fault.number) pla
 
 -- The table is asked at words only: an effect means the same for tables that are equal there.
 abbrev pub asked : Table → UnitOp → Sources → Result ℕ Fault
-asked table operation sources = table operation.number (sources.first % 2 ^ 32) (sources.second % 2 ^ 32)
+asked table operation sources =
+    table (unit_op_number operation) (sources.first % 2 ^ 32) (sources.second % 2 ^ 32)
 
 module _ (table : Table) (words : List ℕ) (handler place : ℕ) (sources : Sources) where
   -- cause 3: a place at or past the count
@@ -61,9 +63,12 @@ module _ (table : Table) (words : List ℕ) (handler place : ℕ) (sources : Sou
   effect_by (Some (instruction.Set destination word)) = does (SetRegister destination word) (following place)
   effect_by (Some (instruction.BranchZero hint tested target)) = does Nothing (if sources.first == 0 then target else following place)
   effect_by (Some (instruction.JumpRegister target guess)) = does Nothing sources.first
-  effect_by (Some (instruction.Load destination base offset)) = loaded words handler place destination (address_of sources.first offset)
-  effect_by (Some (instruction.Store base source offset)) = stored words handler place (address_of sources.first offset) sources.second
-  effect_by (Some (instruction.Compute operation destination first second)) = computed handler place destination (asked table operation sources)
+  effect_by (Some (instruction.Load destination base offset)) =
+      loaded words handler place destination (address_of sources.first offset)
+  effect_by (Some (instruction.Store base source offset)) =
+      stored words handler place (address_of sources.first offset) sources.second
+  effect_by (Some (instruction.Compute operation destination first second)) =
+      computed handler place destination (asked table operation sources)
 
 abbrev pub effect_of : Table → List ℕ → ℕ → Fetched → Sources → Effect
 effect_of table words handler fetched sources = effect_by table words handler fetched.place sources fetched.instruction

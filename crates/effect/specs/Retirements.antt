@@ -1,5 +1,6 @@
 -- The numbers of a retirement record: place, kind, target and word.
 use Rattle.std.specs.Prelude.{ℕ, List, [], ◌∷◌}
+use Rattle.instruction.specs.Named.{register_number}
 use Rattle.effect.specs.declared.actions.Retirement.{Retirement}
 use Rattle.effect.specs.declared.actions.Action.{Action}
 use Rattle.effect.specs.declared.actions.Action.TheVariants.{Nothing, SetRegister, StoreWord, Trap, Halt}
@@ -13,7 +14,7 @@ kind_of Halt = 4
 
 abbrev pub target_of : Action → ℕ
 target_of Nothing = 0
-target_of (SetRegister register word) = register.number
+target_of (SetRegister register word) = register_number register
 target_of (StoreWord address word) = address
 target_of (Trap word) = 15
 target_of Halt = 0

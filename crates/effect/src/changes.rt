@@ -16,7 +16,8 @@ impl Action {
     /// written.
     pub fn apply<M: Memory>(self, registers: &mut [u32; 16], memory: &mut M)
         ensures registers { registers.new ≡ registers_after self registers.old }
-        ensures words { M.Readable.words memory.new ≡ words_after self (M.Readable.words memory.old) }
+        ensures words { M.Readable.words memory.new ≡
+            words_after self (M.Readable.words memory.old) }
         ensures kept { M.Memory.kept memory.new ≡ M.Memory.kept memory.old }
     {
         match self {

@@ -32,7 +32,7 @@ fn jump(next: u32) -> Effect
     }
 }
 
-// The handler goes beside what was fetched: it is the image's, and no part of a fetched instruction.
+// The handler goes beside what was fetched: it is the image's, and no part of what was fetched.
 impl Fetched {
     /// The place after this one.
     fn following(self) -> u32
@@ -52,7 +52,8 @@ impl Fetched {
     }
 
     fn load<R: Readable>(self, handler: u32, register: Register, address: u32, memory: &R) -> Effect
-        ensures { result ≡ loaded (R.Readable.words memory.now) handler self.place register address }
+        ensures { result ≡
+            loaded (R.Readable.words memory.now) handler self.place register address }
     {
         match memory.read(address) {
             Ok(word) => self.go_on(Action::SetRegister { register, word }),
@@ -88,7 +89,8 @@ impl Fetched {
         unit: &U,
         memory: &R,
     ) -> Effect
-        ensures { result ≡ effect_of (U.Unit.table unit.now) (R.Readable.words memory.now) handler self sources }
+        ensures { result ≡
+            effect_of (U.Unit.table unit.now) (R.Readable.words memory.now) handler self sources }
     {
         let Some(instruction) = self.instruction else {
             return trap(3, self.place, handler);

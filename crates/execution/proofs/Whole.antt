@@ -1,26 +1,24 @@
 -- What was read and what was run, put together as an execution.
-use Rattle.std.proofs.Common.{◌≡◌, ℕ, ◌+◌, Bool, List, ◌++◌, length, take, drop, Ok, sym, ap, ◌∙◌, take-append-drop}
+use Rattle.std.proofs.Common.{◌≡◌, ℕ, Bool, List, ◌++◌, length, take, drop, Ok, Result, sym, ap, ◌∙◌, subst, take-append-drop}
 use Rattle.bounded_log.specs.declared.places.Log.{Log}
-use Rattle.bounded_log.specs.Entries.{logged}
-use Rattle.bounded_log.specs.Room.{room}
+use Rattle.bounded_log.specs.Room.{room, Logs}
+use Rattle.image.specs.declared.faults.ImageFault.{ImageFault}
 use Rattle.image.specs.declared.images.Image.{Image}
-use Rattle.image.specs.Meaning.{told as told_of}
+use Rattle.image.specs.Meaning.{program, told as told_of}
 use Rattle.image.specs.Reading.{image_of}
-use Rattle.image.proofs.Programs.{length-program}
 use Rattle.effect.specs.declared.actions.Retirement.{Retirement}
 use Rattle.effect.specs.Effects.{Table}
 use Rattle.stepper.specs.declared.state.Stepper.{Stepper}
 use Rattle.stepper.specs.Machine.{World, State, start}
-use Rattle.stepper.specs.View.{view, world_of, Ran}
-use Rattle.execution.specs.Executed.{Executed, executed, last, told}
+use Rattle.stepper.specs.View.{view, world_of, run_records, Ran}
+use Rattle.execution.specs.declared.answers.Execution.{Execution}
+use Rattle.execution.specs.Executed.{executed, last, told, ExecutesTo}
 
-abbrev shown : ℕ → ℕ → Bool → List ℕ → List Retirement → ℕ → Executed
-shown count steps halted words places entries =
-    record { answer = Ok (record { records = count; steps = steps; halted = halted }); words = words; places = places; count = entries }
+abbrev answered : ℕ → ℕ → Bool → Result Execution ImageFault
+answered count steps halted = Ok (record { records = count; steps = steps; halted = halted })
 
-shown_same : (a a' b b' : ℕ) (h h' : Bool) (ws ws' : List ℕ) (ps ps' : List Retirement) (n n' : ℕ) → a ≡ a' → b ≡ b' → h ≡ h' → ws ≡ ws' → ps ≡ ps' → n ≡ n' →
-    shown a b h ws ps n ≡ shown a' b' h' ws' ps' n'
-shown_same a a' b b' h h' ws ws' ps ps' n n' p q r s t u = cc
+answered_same : (a a' b b' : ℕ) (h h' : Bool) → a ≡ a' → b ≡ b' → h ≡ h' → answered a b h ≡ answered a' b' h'
+answered_same a a' b b' h h' p q r = cc
 
 module _ (table : Table) (words words' : List ℕ) (log log' : Log Retirement) (image : Image) (before after : Stepper) (steps : ℕ)
     (same : before.image ≡ image) (new : view before (take 65536 words) ≡ start (take 65536 words))
@@ -28,23 +26,22 @@ module _ (table : Table) (words words' : List ℕ) (log log' : Log Retirement) (
   abbrev W : World
   W = world_of table image
 
-  made : steps ≡ length (told W (room log) words)
-  made = cc
-
-  places : log'.places.now ≡ logged log.places.now log.count (told W (room log) words)
-  places = cc
+  recorded : run_records table before (take 65536 words) log ≡ told W (room log) words
+  recorded = cc
 
   state : view after (take 65536 words') ≡ last W (room log) words
   state = cc
 
   pub promised : (bytes rest : List ℕ) → image_of bytes ≡ Ok (told_of image rest) → drop 65536 words' ≡ drop 65536 words →
-      (count : ℕ) (halted : Bool) → count ≡ image.head.count → halted ≡ after.halted →
-      shown count steps halted words' log'.places.now log'.count ≡ executed table bytes words log.places.now log.count
+      (count : ℕ) (halted : Bool) → count ≡ length (program image) → halted ≡ after.halted →
+      ExecutesTo (executed table bytes words (room log)) words' log log' (answered count steps halted)
   promised bytes rest read beyond count halted c h =
-      rw read (shown_same _ _ _ _ _ _ _ _ _ _ _ _
-      (c ∙ sym (length-program image.head.count image.records.now))
-      made
-      (h ∙ ap (λ (T : State). T.halted) state)
-      (sym (take-append-drop 65536 words') ∙ ap (λ (zs : List ℕ). zs ++ drop 65536 words') (ap (λ (T : State). T.words) state) ∙ ap (λ (zs : List ℕ). (last W (room log) words).words ++ zs) beyond)
-      places
-      (ran.count ∙ ap (λ (k : ℕ). log.count + k) made))
+      rw read (record {
+        value =
+            answered_same _ _ _ _ _ _ c (ran.made ∙ ap length recorded) (h ∙ ap (λ (T : State). T.halted) state);
+        leaves =
+            sym (take-append-drop 65536 words')
+            ∙ ap (λ (zs : List ℕ). zs ++ drop 65536 words') (ap (λ (T : State). T.words) state)
+            ∙ ap (λ (zs : List ℕ). (last W (room log) words).words ++ zs) beyond;
+        logs = subst (Logs log log') recorded ran.logs;
+      })

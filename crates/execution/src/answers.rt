@@ -3,7 +3,8 @@ ghost use Rattle.execution.specs.Figures.{execution_text};
 
 use std::fmt;
 
-/// How an execution went: how many records the image has, how many steps were made, and whether it halted.
+/// How an execution went: how many records the image has, how many steps were made, and whether it
+/// halted.
 #[derive(Clone, Copy, Debug, PartialEq)]
 pub struct Execution {
     pub records: u16,

@@ -2,8 +2,9 @@
 #![tactic(auto)]
 
 ghost use Rattle.std.specs.Prelude.{◌≡◌, take, drop};
+ghost use Rattle.bounded_log.specs.Room.{room};
 ghost use Rattle.stepper.specs.View.{Ran};
-ghost use Rattle.execution.specs.Executed.{executed};
+ghost use Rattle.execution.specs.Executed.{executed, ExecutesTo};
 
 pub use answers::Execution;
 use bounded_log::Log;
@@ -23,7 +24,8 @@ fn run_over<U: Unit>(
     words: &mut [u32],
     log: &mut Log<'_, Retirement>,
 ) -> usize
-    ensures ran { Ran (U.Unit.table unit.now) stepper.old stepper.new (take 65536 words.old) (take 65536 words.new) log.old log.new result }
+    ensures ran { Ran (U.Unit.table unit.now) stepper.old stepper.new
+        (take 65536 words.old) (take 65536 words.new) log.old log.new result }
     ensures beyond { drop 65536 words.new ≡ drop 65536 words.old }
 {
     let mut memory = LentWords::new(words);
@@ -38,8 +40,9 @@ pub fn execute<U: Unit>(
     words: &mut [u32],
     log: &mut Log<'_, Retirement>,
 ) -> Result<Execution, ImageFault>
-    ensures executed { record { answer = result; words = words.new; places = log.new.places.now; count = log.new.count } ≡ executed (U.Unit.table unit.now) bytes.now words.old log.old.places.now log.old.count }
-    ensures root { log.new.places.ghost_name ≡ log.old.places.ghost_name }
+    ensures { ExecutesTo
+        (executed (U.Unit.table unit.now) bytes.now words.old (room log.old))
+        words.new log.old log.new result }
 {
     let (image, _) = read_image(bytes)?;
     let mut stepper = Stepper::new(image);

@@ -1,4 +1,4 @@
 pub mod Scans
-pub mod Cuts
+pub mod Splits
 pub mod Lefts
 pub mod Bits

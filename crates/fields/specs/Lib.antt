@@ -2,3 +2,4 @@ pub mod Numbers
 pub mod Refusals
 pub mod Rows
 pub mod Scanning
+pub mod Files

@@ -1,5 +1,5 @@
 -- Numbers of several bytes, the highest byte first, in a list of bytes; numbers as sets.
-use Rattle.std.specs.Prelude.{ℕ, ◌+◌, ◌*◌, ◌/◌, ◌%◌, ◌^◌, Bool, ◌&&◌, List, ◌==◌, slice_index}
+use Rattle.std.specs.Prelude.{ℕ, ◌+◌, ◌*◌, ◌/◌, ◌%◌, ◌^◌, Bool, List, ◌==◌, slice_index}
 
 -- the byte at a place
 abbrev pub byte_at : List ℕ → ℕ → ℕ
@@ -12,10 +12,6 @@ two_at bytes k = byte_at bytes k * 256 + byte_at bytes (k + 1)
 -- the number of four bytes from a place on
 abbrev pub four_at : List ℕ → ℕ → ℕ
 four_at bytes k = byte_at bytes k * 16777216 + byte_at bytes (k + 1) * 65536 + byte_at bytes (k + 2) * 256 + byte_at bytes (k + 3)
-
--- do the bytes begin with these three
-abbrev pub begins : ℕ → ℕ → ℕ → List ℕ → Bool
-begins x y z bytes = byte_at bytes 0 == x && (byte_at bytes 1 == y && byte_at bytes 2 == z)
 
 -- does a set of operations hold one: is that bit of the number 1
 abbrev pub holds : ℕ → ℕ → Bool

@@ -1,5 +1,8 @@
 -- Entries of one width in a row, asked one by one, the lowest first.
-use Rattle.std.specs.Prelude.{ℕ, zero, suc, cond, List, [], ◌∷◌, length, drop, Some, None, Ok, Err, Option, Result, nat_lt}
+use Rattle.std.specs.Prelude.{ℕ, zero, suc, List, [], ◌∷◌, drop, Some, None, Ok, Err, Option, Result}
+use Rattle.std.specs.Option.{option_map}
+use Rattle.fields.specs.declared.scanning.EntriesFault.{EntriesFault}
+use Rattle.fields.specs.declared.scanning.EntriesFault.TheVariants.{Entry}
 
 abbrev pub or_else : {F : Type 0} → Option F → Option F → Option F
 or_else None later = later
@@ -11,14 +14,8 @@ first_in fault width zero index bytes = None
 first_in fault width (suc n) index bytes = or_else (fault index bytes) (first_in fault width n (suc index) (drop width bytes))
 
 -- a fault with the number of its entry
-abbrev pub numbered : {F : Type 0} → ℕ → Option F → Option (ℕ × F)
-numbered index None = None
-numbered index (Some fault) = Some (index, fault)
-
--- the first fault with its number, of those entries that the bytes hold whole
-abbrev pub first_whole : {F : Type 0} → (ℕ → List ℕ → Option F) → ℕ → ℕ → ℕ → List ℕ → Option (ℕ × F)
-first_whole fault width zero index bytes = None
-first_whole fault width (suc n) index bytes = cond (nat_lt (length bytes) width) None (or_else (numbered index (fault index bytes)) (first_whole fault width n (suc index) (drop width bytes)))
+abbrev pub told : {F : Type 0} → (ℕ → List ℕ → Option F) → ℕ → List ℕ → Option (EntriesFault F)
+told fault index bytes = option_map (Entry index) (fault index bytes)
 
 -- a fault as an answer: nothing is wrong, or this is
 abbrev pub verdict : {F : Type 0} → Option F → Result (Unit {0}) F

@@ -29,7 +29,7 @@ pub struct Elements<R> {
 impl<R: Row> Elements<R> {
     /// All elements, the first first.
     pub fn of(row: R) -> Elements<R>
-        ensures { left_of R.elements result.row result.index ≡ R.elements row }
+        ensures { left_of R.elements result ≡ R.elements row }
     {
         Elements { row, index: 0 }
     }
@@ -38,9 +38,9 @@ impl<R: Row> Elements<R> {
 impl<R: Row> Iterator for Elements<R> {
     type Item = R::Element;
 
-    ghost next_gives = { YieldsFirst (λ s. left_of R.elements s.row s.index) };
+    ghost next_gives = { YieldsFirst (left_of R.elements) };
 
-    ghost remaining = { item_count (λ s. left_of R.elements s.row s.index) };
+    ghost remaining = { item_count (left_of R.elements) };
 
     fn next(&mut self) -> Option<R::Element> {
         let next = self.row.element(self.index)?;

@@ -4,6 +4,7 @@ use Rattle.fields.specs.declared.refusal.Refusal.{Refusal}
 use Rattle.fields.specs.Numbers.{holds}
 use Rattle.instruction.specs.declared.instructions.Instruction.{Instruction}
 use Rattle.instruction.specs.declared.instructions.Instruction.TheVariants.{Halt, Jump, Set, BranchZero, JumpRegister, Load, Store, Compute}
+use Rattle.instruction.specs.Named.{unit_op_number}
 use Rattle.instruction.specs.Operations.{operation_of}
 use Rattle.layout.specs.Able.{able}
 use Rattle.fit.specs.declared.faults.FitFault.{FitFault}
@@ -27,7 +28,7 @@ heard known (BranchZero hint tested target) = true
 heard known (JumpRegister target guess) = true
 heard known (Load destination base offset) = true
 heard known (Store base stored offset) = true
-heard known (Compute operation destination first second) = holds known operation.number
+heard known (Compute operation destination first second) = holds known (unit_op_number operation)
 
 -- every instruction passes
 abbrev pub All : (Instruction → Bool) → List Instruction → Type 0

@@ -1,4 +1,5 @@
-//! Fit: whether every instruction of an image has a stage, and whether the unit knows its operations.
+//! Fit: whether every instruction of an image has a stage, and whether the unit knows its
+//! operations.
 #![tactic(auto)]
 
 pub use faults::FitFault;

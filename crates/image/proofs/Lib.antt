@@ -1,2 +1,2 @@
 pub mod Programs
-pub mod Heads
+pub mod Read

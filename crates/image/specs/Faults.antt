@@ -1,16 +1,19 @@
 -- Each refusal of an image, with its byte place.
 use Rattle.std.specs.Prelude.{◌+◌, ◌*◌}
+use Rattle.fields.specs.declared.heads.HeadFault.TheVariants.{Short, Mark, Version}
 use Rattle.fields.specs.declared.refusal.Refusal.{Refusal}
+use Rattle.fields.specs.declared.scanning.EntriesFault.TheVariants.{Entry}
+use Rattle.fields.specs.declared.scanning.EntriesFault.TheVariants as entries
 use Rattle.record.specs.Faults.{record_number, record_offset}
 use Rattle.image.specs.declared.faults.ImageFault.{ImageFault}
-use Rattle.image.specs.declared.faults.ImageFault.TheVariants.{ShortHead, Mark, Version, Count, Handler, ShortRecords, Record}
+use Rattle.image.specs.declared.faults.ImageFault.TheVariants.{Head, Count, Handler, Records}
 
 -- the head has nine bytes, and each record eight; where bytes are missing, the place is the number handed in
 abbrev pub image_refusal : ImageFault → Refusal
-image_refusal (ShortHead handed) = record { number = 1; place = handed }
-image_refusal Mark = record { number = 2; place = 0 }
-image_refusal Version = record { number = 3; place = 3 }
+image_refusal (Head (Short handed)) = record { number = 1; place = handed }
+image_refusal (Head Mark) = record { number = 2; place = 0 }
+image_refusal (Head Version) = record { number = 3; place = 3 }
 image_refusal Count = record { number = 4; place = 5 }
 image_refusal Handler = record { number = 5; place = 7 }
-image_refusal (ShortRecords handed) = record { number = 6; place = handed }
-image_refusal (Record index fault) = record { number = record_number fault; place = 9 + 8 * index + record_offset fault }
+image_refusal (Records (entries.Short handed)) = record { number = 6; place = handed }
+image_refusal (Records (Entry index fault)) = record { number = record_number fault; place = 9 + 8 * index + record_offset fault }

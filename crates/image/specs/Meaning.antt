@@ -10,10 +10,17 @@ use Rattle.image.specs.Reading.{Contents, program_of}
 abbrev pub program : Image → List Instruction
 program p = program_of p.head.count p.records.now
 
+abbrev pub version_in : Image → ℕ
+version_in p = p.head.version
+
+-- the place at which a trap goes on
+abbrev pub handler_in : Image → ℕ
+handler_in p = p.head.handler
+
 -- an image and what follows it, as reading tells them
 abbrev pub told : Image → List ℕ → Contents
-told p rest = record { version = p.head.version; handler = p.head.handler; program = program p; rest = rest }
+told p rest = record { version = version_in p; handler = handler_in p; program = program p; rest = rest }
 
 -- the instructions that an iterator has still to give
 abbrev pub left : Elements Image → List Instruction
-left s = left_of program s.row s.index
+left = left_of program

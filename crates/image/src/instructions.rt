@@ -13,7 +13,11 @@ impl<'a> Row for Image<'a> {
 
     ghost elements = { program };
 
-    ghost few = { λ i. Prim.omega (arith, length-entries instruction_in 8 i.head.count i.records.now, i.read.0) };
+    ghost few = { λ i. Prim.omega (
+      arith,
+      length-entries instruction_in 8 i.head.count i.records.now,
+      i.read.0,
+    ) };
 
     fn element(&self, index: u16) -> Option<Instruction> {
         self.fetch(u32::from(index))

@@ -1,6 +1,6 @@
-ghost use Rattle.std.specs.Prelude.{◌≡◌, ◌<◌, ◌≤◌};
+ghost use Rattle.std.specs.Prelude.{◌≡◌, ◌<◌, ◌≤◌, length};
 ghost use Rattle.std.specs.List.{slice_get};
-ghost use Rattle.image.specs.Meaning.{program};
+ghost use Rattle.image.specs.Meaning.{program, version_in, handler_in};
 
 use crate::images::Image;
 use instruction::Instruction;
@@ -8,23 +8,25 @@ use record::Record;
 
 impl<'a> Image<'a> {
     pub fn version(&self) -> u16
-        ensures { result ≡ self.now.head.version }
+        ensures { result ≡ version_in self.now }
     {
         self.head.version
     }
 
     /// How many records it has: 1 to 4,096.
+    #[tactic(auto, using(crate::proofs::Programs::program_length))]
     pub fn count(&self) -> u16
-        ensures value { result ≡ self.now.head.count }
+        ensures value { result ≡ length (program self.now) }
         ensures bound { result ≤ 4096 }
     {
         self.head.count
     }
 
     /// The place at which a trap goes on, below the count.
+    #[tactic(auto, using(crate::proofs::Programs::program_length))]
     pub fn handler(&self) -> u16
-        ensures value { result ≡ self.now.head.handler }
-        ensures bound { result < self.now.head.count }
+        ensures value { result ≡ handler_in self.now }
+        ensures bound { result < length (program self.now) }
     {
         self.head.handler
     }

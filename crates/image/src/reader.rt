@@ -1,19 +1,21 @@
-ghost use Rattle.std.specs.Prelude.{◌≡◌, ◌*◌, ◌<◌, ◌≤◌, length, Ok, Err};
+ghost use Rattle.std.specs.Prelude.{◌≡◌, Ok, Err};
 ghost use Rattle.image.specs.Reading.{head_of, decoder_fault, image_of};
 ghost use Rattle.image.specs.Meaning.{told};
 
 use crate::faults::ImageFault;
 use crate::images::{Head, Image};
-use fields::{Entries, first_fault};
+use fields::{Entries, check_head, read_entries};
 use record::{Record, RecordFault};
 
 /// Records in a row: each must be an instruction.
 struct Records;
 
 impl Entries for Records {
-    type Fault = RecordFault;
+    const WIDTH: u8 = 8;
 
-    ghost width = { 8 };
+    ghost WIDTH = { 8 };
+
+    type Fault = RecordFault;
 
     ghost fault = { λ _ index bytes. decoder_fault bytes };
 
@@ -27,28 +29,17 @@ impl Entries for Records {
 fn read_head(bytes: &[u8]) -> Result<Head, ImageFault>
     ensures { result ≡ head_of bytes.now }
 {
-    let [_, _, _, v1, v0, c1, c0, h1, h0, ..] = bytes else {
-        return Err(ImageFault::ShortHead {
-            handed: bytes.len(),
-        });
-    };
-    if !bytes.starts_with(b"CFP") {
-        return Err(ImageFault::Mark);
-    }
-    let version = u16::from_be_bytes([*v1, *v0]);
-    if version != 1 {
-        return Err(ImageFault::Version);
-    }
-    let count = u16::from_be_bytes([*c1, *c0]);
+    check_head(bytes, b"CFP", 4)?;
+    let count = u16::from_be_bytes([bytes[5], bytes[6]]);
     if !(1..=4096).contains(&count) {
         return Err(ImageFault::Count);
     }
-    let handler = u16::from_be_bytes([*h1, *h0]);
+    let handler = u16::from_be_bytes([bytes[7], bytes[8]]);
     if handler >= count {
         return Err(ImageFault::Handler);
     }
     Ok(Head {
-        version,
+        version: 1,
         count,
         handler,
     })
@@ -56,15 +47,12 @@ fn read_head(bytes: &[u8]) -> Result<Head, ImageFault>
 
 /// The image that the bytes begin with, and the bytes that follow it.
 pub fn read_image(bytes: &[u8]) -> Result<(Image<'_>, &[u8]), ImageFault>
-    ensures { elim result [ Ok p ↦ image_of bytes.now ≡ Ok (told p.0 p.1.now) | Err fault ↦ image_of bytes.now ≡ Err fault ] }
+    ensures { elim result [
+      | Ok p ↦ image_of bytes.now ≡ Ok (told p.0 p.1.now)
+      | Err fault ↦ image_of bytes.now ≡ Err fault
+    ] }
 {
     let head = read_head(bytes)?;
-    let Some((records, rest)) = bytes[9..].split_at_checked(8 * usize::from(head.count)) else {
-        return Err(ImageFault::ShortRecords {
-            handed: bytes.len(),
-        });
-    };
-    let judged = first_fault(&Records, records, head.count);
-    judged.map_err(|(index, fault)| ImageFault::Record { index, fault })?;
+    let (records, rest) = read_entries(&Records, bytes, 9, head.count)?;
     Ok((Image { head, records }, rest))
 }

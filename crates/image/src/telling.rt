@@ -2,7 +2,7 @@ ghost use Rattle.std.specs.Prelude.{◌≡◌};
 ghost use Rattle.image.specs.Faults.{image_refusal};
 
 use crate::faults::ImageFault;
-use fields::Refusal;
+use fields::{EntriesFault, HeadFault, Refusal};
 
 impl From<ImageFault> for Refusal {
     ghost from_gives = { λ f r. r ≡ image_refusal f };
@@ -11,13 +11,13 @@ impl From<ImageFault> for Refusal {
     // A match, since cases that hold something can have no numbers of their own.
     fn from(fault: ImageFault) -> Refusal {
         let (number, place) = match fault {
-            ImageFault::ShortHead { handed } => (1, handed),
-            ImageFault::Mark => (2, 0),
-            ImageFault::Version => (3, 3),
+            ImageFault::Head(HeadFault::Short { handed }) => (1, handed),
+            ImageFault::Head(HeadFault::Mark) => (2, 0),
+            ImageFault::Head(HeadFault::Version) => (3, 3),
             ImageFault::Count => (4, 5),
             ImageFault::Handler => (5, 7),
-            ImageFault::ShortRecords { handed } => (6, handed),
-            ImageFault::Record { index, fault } => (
+            ImageFault::Records(EntriesFault::Short { handed }) => (6, handed),
+            ImageFault::Records(EntriesFault::Entry { index, fault }) => (
                 fault.number(),
                 9 + 8 * usize::from(index) + usize::from(fault.offset()),
             ),

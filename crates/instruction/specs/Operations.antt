@@ -2,6 +2,7 @@
 use Rattle.std.specs.Prelude.{ℕ, ◌+◌}
 use Rattle.instruction.specs.declared.instructions.Instruction.{Instruction}
 use Rattle.instruction.specs.declared.instructions.Instruction.TheVariants.{Halt, Jump, Set, BranchZero, JumpRegister, Load, Store, Compute}
+use Rattle.instruction.specs.Named.{unit_op_number}
 
 abbrev pub operation_of : Instruction → ℕ
 operation_of Halt = 0
@@ -11,4 +12,4 @@ operation_of (BranchZero hint tested target) = 3
 operation_of (JumpRegister target guess) = 4
 operation_of (Load destination base offset) = 5
 operation_of (Store base stored offset) = 6
-operation_of (Compute operation destination first second) = 16 + operation.number
+operation_of (Compute operation destination first second) = 16 + unit_op_number operation

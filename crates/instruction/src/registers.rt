@@ -1,5 +1,5 @@
 ghost use Rattle.std.specs.Prelude.{◌≡◌, ◌<◌};
-ghost use Rattle.instruction.specs.Named.{register};
+ghost use Rattle.instruction.specs.Named.{register, register_number};
 
 use crate::numbers::Register;
 
@@ -12,7 +12,7 @@ impl Register {
     }
 
     pub fn number(self) -> u8
-        ensures value { result ≡ self.number }
+        ensures value { result ≡ register_number self }
         ensures below { result < 16 }
     {
         self.number
@@ -20,7 +20,7 @@ impl Register {
 
     /// Its number, as an index into sixteen registers.
     pub fn index(self) -> usize
-        ensures value { result ≡ self.number }
+        ensures value { result ≡ register_number self }
         ensures below { result < 16 }
     {
         usize::from(self.number)

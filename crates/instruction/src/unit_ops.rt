@@ -1,5 +1,5 @@
 ghost use Rattle.std.specs.Prelude.{◌≡◌, ◌<◌};
-ghost use Rattle.instruction.specs.Named.{unit_op};
+ghost use Rattle.instruction.specs.Named.{unit_op, unit_op_number};
 
 use crate::numbers::UnitOp;
 
@@ -13,7 +13,7 @@ impl UnitOp {
 
     /// Its number, as a unit is asked for it.
     pub fn number(self) -> u8
-        ensures value { result ≡ self.number }
+        ensures value { result ≡ unit_op_number self }
         ensures below { result < 16 }
     {
         self.number

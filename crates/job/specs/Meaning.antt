@@ -14,8 +14,8 @@ whole_told p = moves.told p []
 
 abbrev pub told : Job → Contents
 told job = record {
-  version = job.image.head.version;
-  handler = job.image.head.handler;
+  version = image.version_in job.image;
+  handler = image.handler_in job.image;
   program = image.program job.image;
   sets = layout.sets_in job.layout;
   moves = moves.moves_in job.moves;

@@ -7,7 +7,10 @@ use crate::states::{Job, JobBytes};
 
 /// The job that the bytes are.
 pub fn read_job(bytes: &[u8]) -> Result<Job<'_>, JobFault>
-    ensures { elim result [ Ok job ↦ job_of bytes.now ≡ Ok (told job) | Err fault ↦ job_of bytes.now ≡ Err fault ] }
+    ensures { elim result [
+      | Ok job ↦ job_of bytes.now ≡ Ok (told job)
+      | Err fault ↦ job_of bytes.now ≡ Err fault
+    ] }
 {
     JobBytes::new(bytes).image()?.layout()?.moves()
 }

@@ -1,11 +1,9 @@
 ghost use Rattle.std.specs.Prelude.{◌≡◌, length, Ok, Err, IfOk};
-ghost use Rattle.image.specs.Reading.{image_of};
 ghost use Rattle.image.specs.Meaning.{told as imageTold};
-ghost use Rattle.layout.specs.Reading.{layout_of};
 ghost use Rattle.layout.specs.Meaning.{told as layoutTold};
-ghost use Rattle.moves.specs.Reading.{moves_of};
-ghost use Rattle.job.specs.Reading.{begin_of, image_step, layout_step, moves_step};
+ghost use Rattle.job.specs.Reading.{begin_of};
 ghost use Rattle.job.specs.Meaning.{whole_told};
+ghost use Rattle.job.specs.States.{bytes_in, image_total, image_read, image_left, layout_total, layout_image, layout_read, layout_left, image_next, layout_next, moves_next};
 
 use crate::faults::JobFault;
 use crate::states::{Job, JobBytes, JobWithImage, JobWithLayout};
@@ -22,15 +20,18 @@ fn begin_of(total: usize, rest: &[u8]) -> usize
 
 impl<'a> JobBytes<'a> {
     pub fn new(bytes: &'a [u8]) -> JobBytes<'a>
-        ensures { result.bytes.now ≡ bytes.now }
+        ensures { bytes_in result ≡ bytes.now }
     {
         JobBytes { bytes }
     }
 
     /// Reads the image.
     pub fn image(self) -> Result<JobWithImage<'a>, JobFault>
-        ensures value { elim result [ Ok s ↦ image_step (image_of self.entry.bytes.now) ≡ Ok (imageTold s.image s.rest.now) | Err fault ↦ image_step (image_of self.entry.bytes.now) ≡ Err fault ] }
-        ensures kept { IfOk result (λ s. s.length ≡ length self.entry.bytes.now) }
+        ensures value { elim result [
+          | Ok s ↦ image_next self.entry ≡ Ok (imageTold (image_read s) (image_left s))
+          | Err fault ↦ image_next self.entry ≡ Err fault
+        ] }
+        ensures kept { IfOk result (λ s. image_total s ≡ length (bytes_in self.entry)) }
     {
         let JobBytes { bytes } = self;
         let (image, rest) = read_image(bytes)?;
@@ -45,8 +46,12 @@ impl<'a> JobBytes<'a> {
 impl<'a> JobWithImage<'a> {
     /// Reads the layout.
     pub fn layout(self) -> Result<JobWithLayout<'a>, JobFault>
-        ensures value { elim result [ Ok s ↦ layout_step (begin_of self.entry.length self.entry.rest.now) (layout_of self.entry.rest.now) ≡ Ok (layoutTold s.layout s.rest.now) | Err fault ↦ layout_step (begin_of self.entry.length self.entry.rest.now) (layout_of self.entry.rest.now) ≡ Err fault ] }
-        ensures kept { IfOk result (λ s. (s.length ≡ self.entry.length) × (s.image ≡ self.entry.image)) }
+        ensures value { elim result [
+          | Ok s ↦ layout_next self.entry ≡ Ok (layoutTold (layout_read s) (layout_left s))
+          | Err fault ↦ layout_next self.entry ≡ Err fault
+        ] }
+        ensures kept { IfOk result (λ s.
+            (layout_total s ≡ image_total self.entry) × (layout_image s ≡ image_read self.entry)) }
     {
         let JobWithImage {
             length,
@@ -67,8 +72,12 @@ impl<'a> JobWithImage<'a> {
 impl<'a> JobWithLayout<'a> {
     /// Reads the moves, after which nothing may be left.
     pub fn moves(self) -> Result<Job<'a>, JobFault>
-        ensures value { elim result [ Ok s ↦ moves_step self.entry.length (begin_of self.entry.length self.entry.rest.now) (moves_of self.entry.rest.now) ≡ Ok (whole_told s.moves) | Err fault ↦ moves_step self.entry.length (begin_of self.entry.length self.entry.rest.now) (moves_of self.entry.rest.now) ≡ Err fault ] }
-        ensures kept { IfOk result (λ s. (s.layout ≡ self.entry.layout) × (s.image ≡ self.entry.image)) }
+        ensures value { elim result [
+          | Ok s ↦ moves_next self.entry ≡ Ok (whole_told s.moves)
+          | Err fault ↦ moves_next self.entry ≡ Err fault
+        ] }
+        ensures kept { IfOk result (λ s. (s.layout ≡ layout_read self.entry)
+            × (s.image ≡ layout_image self.entry)) }
     {
         let JobWithLayout {
             length,

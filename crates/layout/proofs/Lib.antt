@@ -1,4 +1,4 @@
 pub mod Sets
-pub mod Heads
+pub mod Read
 pub mod Lasts
 pub mod Above

@@ -27,9 +27,11 @@ impl StageSets {
 }
 
 impl Entries for StageSets {
-    type Fault = SetFault;
+    const WIDTH: u8 = 4;
 
-    ghost width = { 4 };
+    ghost WIDTH = { 4 };
+
+    type Fault = SetFault;
 
     ghost fault = { λ sets. set_wrong_at sets.stages };
 

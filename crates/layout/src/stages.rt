@@ -46,7 +46,8 @@ impl<'a> Layout<'a> {
 
     /// Can some stage from this one on execute the operation?
     pub fn able_from(&self, stage: usize, operation: u8) -> bool
-        ensures { result ≡ able_from (length (sets_in self.now)) (sets_in self.now) stage operation }
+        ensures { result ≡
+            able_from (length (sets_in self.now)) (sets_in self.now) stage operation }
     {
         self.last_able(operation).is_some_and(|last| stage <= last)
     }

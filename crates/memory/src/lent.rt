@@ -1,5 +1,6 @@
-ghost use Rattle.std.specs.Prelude.{◌≡◌, ℕ, List, [], ◌∷◌, length, take, drop};
+ghost use Rattle.std.specs.Prelude.{◌≡◌, length};
 ghost use Rattle.std.proofs.Common.{arith, length-take};
+ghost use Rattle.memory.specs.Lent.{lent_in, lent_root, addressed_in, kept_of_lent};
 
 use crate::access::{AccessFault, word_at};
 use crate::traits::{Memory, Readable};
@@ -12,15 +13,15 @@ pub struct LentWords<'a> {
 
 impl<'a> LentWords<'a> {
     pub fn new(cells: &'a mut [u32]) -> LentWords<'a>
-        ensures words { result.cells.now ≡ cells.old }
-        ensures root { result.cells.ghost_name ≡ cells.entry.ghost_name }
+        ensures words { lent_in result ≡ cells.old }
+        ensures root { lent_root result ≡ cells.entry.ghost_name }
     {
         LentWords { cells }
     }
 
     /// The words that have an address.
     fn addressed(&self) -> &[u32]
-        ensures { result.now ≡ take 65536 self.now.cells.now }
+        ensures { result.now ≡ addressed_in self.now }
     {
         let end = self.cells.len().min(65536);
         &self.cells[..end]
@@ -28,9 +29,9 @@ impl<'a> LentWords<'a> {
 }
 
 impl<'a> Readable for LentWords<'a> {
-    ghost words = { λ s. take 65536 s.cells.now };
+    ghost words = { addressed_in };
 
-    ghost short = { λ s. Prim.omega (arith, length-take 65536 s.cells.now) };
+    ghost short = { λ s. Prim.omega (arith, length-take 65536 (lent_in s)) };
 
     fn size(&self) -> u32 {
         self.addressed().len() as u32
@@ -42,11 +43,11 @@ impl<'a> Readable for LentWords<'a> {
 }
 
 impl<'a> Memory for LentWords<'a> {
-    ghost kept = { λ s. record { roots = s.cells.ghost_name ∷ []; beyond = drop 65536 s.cells.now ∷ [] } };
+    ghost kept = { kept_of_lent };
 
     fn write(&mut self, address: u32, word: u32) -> Result<(), AccessFault> {
-        // By the index, here as in `OwnWords`: to lend a part, or to ask `get_mut`, tells a proof too
-        // little of the other words.
+        // By the index, here as in `OwnWords`: to lend a part, or to ask `get_mut`, tells a proof
+        // too little of the other words.
         if address < self.size() {
             self.cells[address as usize] = word;
             Ok(())

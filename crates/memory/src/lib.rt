@@ -1,4 +1,5 @@
-//! Words behind an interface: what can be read, what can also be written, two such memories, and windows.
+//! Words behind an interface: what can be read, what can also be written, two such memories, and
+//! windows.
 #![tactic(auto)]
 
 pub use access::{AccessFault, WindowFault};

@@ -1,4 +1,5 @@
-ghost use Rattle.std.specs.Prelude.{◌≡◌, ◌∷◌};
+ghost use Rattle.std.specs.Prelude.{◌≡◌};
+ghost use Rattle.memory.specs.Lent.{memory_in, memory_root, kept_of_loan};
 
 use crate::access::AccessFault;
 use crate::traits::{Memory, Readable};
@@ -11,17 +12,17 @@ pub struct Loan<'a, M> {
 
 impl<'a, M: Memory> Loan<'a, M> {
     pub fn new(below: &'a mut M) -> Loan<'a, M>
-        ensures below { result.below.now ≡ below.old }
-        ensures root { result.below.ghost_name ≡ below.entry.ghost_name }
+        ensures below { memory_in result ≡ below.old }
+        ensures root { memory_root result ≡ below.entry.ghost_name }
     {
         Loan { below }
     }
 }
 
 impl<'a, M: Memory> Readable for Loan<'a, M> {
-    ghost words = { λ s. M.Readable.words s.below.now };
+    ghost words = { λ s. M.Readable.words (memory_in s) };
 
-    ghost short = { λ s. M.Readable.short s.below.now };
+    ghost short = { λ s. M.Readable.short (memory_in s) };
 
     fn size(&self) -> u32 {
         self.below.size()
@@ -33,7 +34,7 @@ impl<'a, M: Memory> Readable for Loan<'a, M> {
 }
 
 impl<'a, M: Memory> Memory for Loan<'a, M> {
-    ghost kept = { λ s. record (M.Memory.kept s.below.now) { roots = s.below.ghost_name ∷ (M.Memory.kept s.below.now).roots } };
+    ghost kept = { λ s. kept_of_loan s M.Memory.kept };
 
     fn write(&mut self, address: u32, word: u32) -> Result<(), AccessFault> {
         self.below.write(address, word)

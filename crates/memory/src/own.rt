@@ -1,5 +1,4 @@
-ghost use Rattle.std.specs.Prelude.{◌≡◌, [], length, replicate};
-ghost use Rattle.std.proofs.Common.{arith};
+ghost use Rattle.std.specs.Prelude.{◌≡◌, [], length};
 
 use crate::access::{AccessFault, word_at};
 use crate::traits::{Memory, Readable};
@@ -14,16 +13,22 @@ pub struct OwnWords {
 }
 
 impl OwnWords {
+    ghost use Rattle.std.specs.Prelude.{replicate};
+    ghost use Rattle.memory.specs.Own.{own_in};
+
     /// Every word is 0 at first.
     pub fn new() -> OwnWords
-        ensures { result.cells ≡ replicate 64 0 }
+        ensures { own_in result ≡ replicate 64 0 }
     {
         OwnWords { cells: [0; 64] }
     }
 }
 
 impl Readable for OwnWords {
-    ghost words = { λ s. s.cells };
+    ghost use Rattle.std.proofs.Common.{arith};
+    ghost use Rattle.memory.specs.Own.{own_in};
+
+    ghost words = { own_in };
 
     ghost short = { λ s. Prim.omega (arith, s.full) };
 

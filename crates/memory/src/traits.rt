@@ -26,6 +26,7 @@ pub trait Memory: Readable {
 
     fn write(&mut self, address: u32, word: u32) -> Result<(), AccessFault>
         ensures value { result ≡ write_of (Self.Readable.words self.old) address }
-        ensures after { Self.Readable.words self.new ≡ written (Self.Readable.words self.old) address word }
+        ensures after { Self.Readable.words self.new ≡
+            written (Self.Readable.words self.old) address word }
         ensures kept { kept self.new ≡ kept self.old };
 }

@@ -2,7 +2,8 @@ ghost use Rattle.std.specs.Prelude.{◌≡◌, ◌+◌, length, nat_le};
 ghost use Rattle.std.proofs.Common.{rules};
 ghost use Rattle.std.proofs.lemmas.Grind.{common_steps};
 ghost use Rattle.memory.specs.Words.{write_of, written};
-ghost use Rattle.memory.specs.Windows.{check_of, window_of, kept_of, written_below};
+ghost use Rattle.memory.specs.Windows.{check_of, window_over, memory_below};
+ghost use Rattle.memory.specs.Windows.{words_below, seen_through, written_through, kept_through};
 
 use crate::access::{AccessFault, WindowFault};
 use crate::traits::{Memory, Readable};
@@ -37,16 +38,14 @@ impl<M: Memory> Window<M> {
 
     /// A window, which has no words where it does not fit.
     pub fn new(below: M, base: u32, size: u32) -> Window<M>
-        ensures below { result.below ≡ below }
-        ensures base { result.base ≡ base }
-        ensures size { result.size ≡ size }
+        ensures { result ≡ window_over below base size }
     {
         Window { below, base, size }
     }
 
     /// The memory below, at the end of the window.
     pub fn into_below(self) -> M
-        ensures { result ≡ self.below }
+        ensures { result ≡ memory_below self }
     {
         let Window { below, .. } = self;
         below
@@ -54,7 +53,7 @@ impl<M: Memory> Window<M> {
 }
 
 impl<M: Memory> Readable for Window<M> {
-    ghost words = { λ s. window_of (M.Readable.words s.below) s.base s.size };
+    ghost words = { seen_through M.Readable.words };
 
     ghost short = { λ s. Prim.search (rules, common_steps) };
 
@@ -77,13 +76,16 @@ impl<M: Memory> Readable for Window<M> {
 
 impl<M: Memory> Memory for Window<M> {
     // Base and size stay, and so do the words of the memory below that are not in the window.
-    ghost kept = { λ s. kept_of (M.Readable.words s.below) s.base s.size (M.Memory.kept s.below) };
+    ghost kept = { λ s. kept_through M.Readable.words s M.Memory.kept };
 
     fn write(&mut self, address: u32, word: u32) -> Result<(), AccessFault>
-        ensures value { result ≡ write_of (window_of (M.Readable.words self.old.below) self.old.base self.old.size) address }
-        ensures after { window_of (M.Readable.words self.new.below) self.new.base self.new.size ≡ written (window_of (M.Readable.words self.old.below) self.old.base self.old.size) address word }
-        ensures kept { kept_of (M.Readable.words self.new.below) self.new.base self.new.size (M.Memory.kept self.new.below) ≡ kept_of (M.Readable.words self.old.below) self.old.base self.old.size (M.Memory.kept self.old.below) }
-        ensures below { M.Readable.words self.new.below ≡ written_below (M.Readable.words self.old.below) self.old.base self.old.size address word }
+        ensures value { result ≡ write_of (seen_through M.Readable.words self.old) address }
+        ensures after { seen_through M.Readable.words self.new ≡
+            written (seen_through M.Readable.words self.old) address word }
+        ensures kept { kept_through M.Readable.words self.new M.Memory.kept ≡
+            kept_through M.Readable.words self.old M.Memory.kept }
+        ensures below { words_below M.Readable.words self.new ≡
+            written_through M.Readable.words self.old address word }
     {
         if address < self.size() {
             self.below.write(self.base + address, word)

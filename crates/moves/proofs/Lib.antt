@@ -1,2 +1,2 @@
 pub mod Scanned
-pub mod Heads
+pub mod Read

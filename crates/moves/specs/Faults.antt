@@ -1,10 +1,13 @@
 -- Each refusal of a move list, with its byte place.
 use Rattle.std.specs.Prelude.{ℕ, ◌+◌, ◌*◌}
+use Rattle.fields.specs.declared.heads.HeadFault.TheVariants.{Short, Mark, Version}
 use Rattle.fields.specs.declared.refusal.Refusal.{Refusal}
+use Rattle.fields.specs.declared.scanning.EntriesFault.TheVariants.{Entry}
+use Rattle.fields.specs.declared.scanning.EntriesFault.TheVariants as entries
 use Rattle.moves.specs.declared.faults.MoveFault.{MoveFault}
 use Rattle.moves.specs.declared.faults.MoveFault.TheVariants.{Kind, Place}
 use Rattle.moves.specs.declared.faults.MoveListFault.{MoveListFault}
-use Rattle.moves.specs.declared.faults.MoveListFault.TheVariants.{ShortHead, Mark, Version, Count, ShortMoves, Move}
+use Rattle.moves.specs.declared.faults.MoveListFault.TheVariants.{Head, Count, Moves}
 
 abbrev pub move_number : MoveFault → ℕ
 move_number Kind = 22
@@ -16,9 +19,9 @@ move_offset Place = 1
 
 -- the head has seven bytes, and each move two; where bytes are missing, the place is the number handed in
 abbrev pub list_refusal : MoveListFault → Refusal
-list_refusal (ShortHead handed) = record { number = 17; place = handed }
-list_refusal Mark = record { number = 18; place = 0 }
-list_refusal Version = record { number = 19; place = 3 }
+list_refusal (Head (Short handed)) = record { number = 17; place = handed }
+list_refusal (Head Mark) = record { number = 18; place = 0 }
+list_refusal (Head Version) = record { number = 19; place = 3 }
 list_refusal Count = record { number = 20; place = 5 }
-list_refusal (ShortMoves handed) = record { number = 21; place = handed }
-list_refusal (Move index fault) = record { number = move_number fault; place = 7 + 2 * index + move_offset fault }
+list_refusal (Moves (entries.Short handed)) = record { number = 21; place = handed }
+list_refusal (Moves (Entry index fault)) = record { number = move_number fault; place = 7 + 2 * index + move_offset fault }

@@ -15,4 +15,4 @@ told l rest = record { moves = moves_in l; rest = rest }
 
 -- the moves that an iterator has still to give
 abbrev pub left : Elements MoveList → List Move
-left s = left_of moves_in s.row s.index
+left = left_of moves_in

@@ -1,3 +1,8 @@
+ghost use Rattle.std.specs.Prelude.{◌≡◌};
+ghost use Rattle.moves.specs.declared.faults.MoveListFault.TheVariants.{Head, Moves};
+
+use fields::{EntriesFault, HeadFault};
+
 /// Why two bytes are no move; its number is that of the question that decided.
 #[derive(Clone, Copy, Debug, PartialEq)]
 pub enum MoveFault {
@@ -8,10 +13,23 @@ pub enum MoveFault {
 /// Why bytes are no move list: the reader's refusal, which holds the decoder's whole.
 #[derive(Clone, Copy, Debug, PartialEq)]
 pub enum MoveListFault {
-    ShortHead { handed: usize },
-    Mark,
-    Version,
+    Head(HeadFault),
     Count,
-    ShortMoves { handed: usize },
-    Move { index: u16, fault: MoveFault },
+    Moves(EntriesFault<MoveFault>),
+}
+
+impl From<HeadFault> for MoveListFault {
+    ghost from_gives = { λ fault refused. refused ≡ Head fault };
+
+    fn from(fault: HeadFault) -> MoveListFault {
+        MoveListFault::Head(fault)
+    }
+}
+
+impl From<EntriesFault<MoveFault>> for MoveListFault {
+    ghost from_gives = { λ fault refused. refused ≡ Moves fault };
+
+    fn from(fault: EntriesFault<MoveFault>) -> MoveListFault {
+        MoveListFault::Moves(fault)
+    }
 }

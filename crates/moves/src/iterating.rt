@@ -13,7 +13,11 @@ impl<'a> Row for MoveList<'a> {
 
     ghost elements = { moves_in };
 
-    ghost few = { λ l. Prim.omega (arith, length-entries entry_in 2 l.count l.bytes.now, l.read.0) };
+    ghost few = { λ l. Prim.omega (
+      arith,
+      length-entries entry_in 2 l.count l.bytes.now,
+      l.read.0,
+    ) };
 
     fn element(&self, index: u16) -> Option<Move> {
         self.get(index)
@@ -36,7 +40,8 @@ impl<'a> IntoIterator for &MoveList<'a> {
 
     type IntoIter = Elements<MoveList<'a>>;
 
-    ghost into_iter_gives = { λ list moves. (left moves ≡ moves_in list.now) × (length (left moves) ≤ 16000) };
+    ghost into_iter_gives = { λ list moves. (left moves ≡ moves_in list.now)
+        × (length (left moves) ≤ 16000) };
 
     fn into_iter(self) -> Elements<MoveList<'a>> {
         self.iter()

@@ -9,11 +9,13 @@ use fields::Entries;
 pub(crate) struct MoveEntries;
 
 impl Entries for MoveEntries {
+    const WIDTH: u8 = 2;
+
+    ghost WIDTH = { 2 };
+
     type Fault = MoveFault;
 
-    ghost width = { 2 };
-
-    ghost fault = { λ entries index bytes. move_wrong bytes };
+    ghost fault = { λ _ index bytes. move_wrong bytes };
 
     fn judge<'a>(&self, _index: u16, bytes: &'a [u8]) -> Option<Result<&'a [u8], MoveFault>> {
         let [kind, place, rest @ ..] = bytes else {

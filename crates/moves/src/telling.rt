@@ -2,7 +2,7 @@ ghost use Rattle.std.specs.Prelude.{◌≡◌};
 ghost use Rattle.moves.specs.Faults.{move_number, move_offset, list_refusal};
 
 use crate::faults::{MoveFault, MoveListFault};
-use fields::Refusal;
+use fields::{EntriesFault, HeadFault, Refusal};
 
 impl MoveFault {
     /// The number of the question that decided.
@@ -32,12 +32,12 @@ impl From<MoveListFault> for Refusal {
     // A match, since cases that hold something can have no numbers of their own.
     fn from(fault: MoveListFault) -> Refusal {
         let (number, place) = match fault {
-            MoveListFault::ShortHead { handed } => (17, handed),
-            MoveListFault::Mark => (18, 0),
-            MoveListFault::Version => (19, 3),
+            MoveListFault::Head(HeadFault::Short { handed }) => (17, handed),
+            MoveListFault::Head(HeadFault::Mark) => (18, 0),
+            MoveListFault::Head(HeadFault::Version) => (19, 3),
             MoveListFault::Count => (20, 5),
-            MoveListFault::ShortMoves { handed } => (21, handed),
-            MoveListFault::Move { index, fault } => (
+            MoveListFault::Moves(EntriesFault::Short { handed }) => (21, handed),
+            MoveListFault::Moves(EntriesFault::Entry { index, fault }) => (
                 fault.number(),
                 7 + 2 * usize::from(index) + usize::from(fault.offset()),
             ),

@@ -1,4 +1,5 @@
--- A move with a question that is answered with no: it answers that refusal, and leaves all as it stood.
+-- A move with a question that is answered with no: it answers that refusal, and leaves all as it
+-- stood.
 use Rattle.std.proofs.Common.{◌≡◌, ℕ, false, List, Some, None, Ok, Err, Option, Result, sym, refl, ap, ◌∙◌, arith}
 use Rattle.std.specs.Prelude.{IsErrAnd}
 use Rattle.fields.specs.Scanning.{verdict}

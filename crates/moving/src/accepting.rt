@@ -15,10 +15,10 @@ use packets::Stage;
 use pipes::Pipes;
 use unit::Unit;
 
-/// Makes a move whose questions were all answered with yes: each changes the one or two stages that it
-/// names.
-// A match, since the kinds are these eight. Unit and memory are parameters of every call: any may be handed in
-// at any of them.
+/// Makes a move whose questions were all answered with yes: each changes the one or two stages that
+/// it names.
+// A match, since the kinds are these eight. Unit and memory are parameters of every call: any may
+// be handed in at any of them.
 pub(crate) fn accept<U: Unit, M: Memory>(
     pipes: &mut Pipes,
     image: &Image<'_>,
@@ -28,7 +28,10 @@ pub(crate) fn accept<U: Unit, M: Memory>(
     memory: &mut M,
 ) -> Option<Retirement>
     requires { place_right (length (sets_in layout.now)) next.kind next.place ≡ true }
-    ensures left { record { pipes = pipes.new; words = M.Readable.words memory.new; retirement = result } ≡ accepted (world_of (U.Unit.table unit.now) image.now) (sets_in layout.now) pipes.old (M.Readable.words memory.old) next.kind next.place }
+    ensures left { record
+        { pipes = pipes.new; words = M.Readable.words memory.new; retirement = result }
+        ≡ accepted (world_of (U.Unit.table unit.now) image.now) (sets_in layout.now)
+        pipes.old (M.Readable.words memory.old) next.kind next.place }
     ensures kept { M.Memory.kept memory.new ≡ M.Memory.kept memory.old }
 {
     let Move { kind, place } = next;

@@ -28,7 +28,11 @@ fn enter<U: Unit, R: Readable>(
     unit: &U,
     memory: &R,
 )
-    ensures { pipes.new ≡ with_fetch (with_stage pipes.old 0 (met (Some (entering (U.Unit.table unit.now) (R.Readable.words memory.now) handler fetched)) (result_in (stage_at pipes.old 0)))) (fetch_behind fetched) }
+    ensures { pipes.new ≡ with_fetch
+        (with_stage pipes.old 0 (met
+        (Some (entering (U.Unit.table unit.now) (R.Readable.words memory.now) handler fetched))
+        (result_in (stage_at pipes.old 0))))
+        (fetch_behind fetched) }
 {
     let packet = Packet::entering(fetched, handler, unit, memory);
     pipes.stages[0].enter(Some(packet));
@@ -46,7 +50,8 @@ pub(crate) fn fetch<U: Unit, R: Readable>(
     unit: &U,
     memory: &R,
 )
-    ensures { pipes.new ≡ fetched_from (world_of (U.Unit.table unit.now) image.now) (R.Readable.words memory.now) pipes.old pipes.old.fetch }
+    ensures { pipes.new ≡ fetched_from (world_of (U.Unit.table unit.now) image.now)
+        (R.Readable.words memory.now) pipes.old pipes.old.fetch }
 {
     if let Some(place) = pipes.fetch {
         let fetched = Fetched {
@@ -76,7 +81,9 @@ pub(crate) fn retire<M: Memory>(
     leaving: Option<Packet>,
     memory: &mut M,
 ) -> Option<Retirement>
-    ensures left { record { pipes = pipes.new; words = M.Readable.words memory.new; retirement = result } ≡ retired_from pipes.old (M.Readable.words memory.old) leaving }
+    ensures left { record
+        { pipes = pipes.new; words = M.Readable.words memory.new; retirement = result }
+        ≡ retired_from pipes.old (M.Readable.words memory.old) leaving }
     ensures kept { M.Memory.kept memory.new ≡ M.Memory.kept memory.old }
 {
     let packet = leaving?;

@@ -16,7 +16,8 @@ pub(crate) fn read_value(pipes: &Pipes, register: u8) -> PipeResult
     }
 }
 
-/// DROP: where fetch stands after a result has left; a wrong-branch and a trap open it at their target.
+/// DROP: where fetch stands after a result has left; a wrong-branch and a trap open it at their
+/// target.
 pub(crate) fn fetch_on(leaving: Option<PipeResult>, fetch: Option<u32>) -> Option<u32>
     ensures { result ≡ fetch_on leaving fetch }
 {

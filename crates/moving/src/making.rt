@@ -14,10 +14,10 @@ use moves::{Move, MoveKind};
 use pipes::{MoveRefusal, Pipes};
 use unit::Unit;
 
-/// Makes a move, or turns it away with everything as it stood. Answers a record exactly where a live
-/// packet retired.
-// Image and layout are lent beside the pipes: a move changes the pipes alone, and the pipeline holds all
-// three with its invariants.
+/// Makes a move, or turns it away with everything as it stood. Answers a record exactly where a
+/// live packet retired.
+// Image and layout are lent beside the pipes: a move changes the pipes alone, and the pipeline
+// holds all three with its invariants.
 pub fn make<U: Unit, M: Memory>(
     pipes: &mut Pipes,
     image: &Image<'_>,
@@ -26,7 +26,10 @@ pub fn make<U: Unit, M: Memory>(
     unit: &U,
     memory: &mut M,
 ) -> Result<Option<Retirement>, MoveRefusal>
-    ensures made { record { answer = result; pipes = pipes.new; words = M.Readable.words memory.new } ≡ moved (world_of (U.Unit.table unit.now) image.now) (sets_in layout.now) pipes.old (M.Readable.words memory.old) (number_of next.kind) next.place }
+    ensures made { record
+        { answer = result; pipes = pipes.new; words = M.Readable.words memory.new }
+        ≡ moved (world_of (U.Unit.table unit.now) image.now) (sets_in layout.now)
+        pipes.old (M.Readable.words memory.old) (number_of next.kind) next.place }
     ensures kept { M.Memory.kept memory.new ≡ M.Memory.kept memory.old }
 {
     if pipes.halted {
@@ -46,11 +49,16 @@ pub fn make_move<U: Unit, M: Memory>(
     unit: &U,
     memory: &mut M,
 ) -> Result<Option<Retirement>, MoveRefusal>
-    ensures made { record { answer = result; pipes = pipes.new; words = M.Readable.words memory.new } ≡ moved (world_of (U.Unit.table unit.now) image.now) (sets_in layout.now) pipes.old (M.Readable.words memory.old) kind place }
+    ensures made { record
+        { answer = result; pipes = pipes.new; words = M.Readable.words memory.new }
+        ≡ moved (world_of (U.Unit.table unit.now) image.now) (sets_in layout.now)
+        pipes.old (M.Readable.words memory.old) kind place }
     ensures kept { M.Memory.kept memory.new ≡ M.Memory.kept memory.old }
 {
     match MoveKind::try_from(kind) {
         Ok(kind) => make(pipes, image, layout, Move { kind, place }, unit, memory),
+        // Halted is asked before the kind is: a move of an unknown kind on a halted core is refused
+        // as halted.
         Err(_) if pipes.halted => Err(MoveRefusal::Halted),
         Err(_) => Err(MoveRefusal::UnknownKind),
     }

@@ -70,7 +70,8 @@ fn ask_lower(here: &Stage, below: &Stage) -> Result<(), MoveRefusal>
     Ok(())
 }
 
-/// EXECUTE: is there a packet that waits and is live, has it its words, and can the stage execute it?
+/// EXECUTE: is there a packet that waits and is live, has it its words, and can the stage execute
+/// it?
 fn ask_execute(layout: &Layout<'_>, stage: u8, here: &Stage) -> Result<(), MoveRefusal>
     ensures { result ≡ verdict (ask_execute (sets_in layout.now) stage here.now) }
 {

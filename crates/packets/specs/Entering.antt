@@ -55,7 +55,9 @@ no_words = record { first = 0; second = 0 }
 -- what needs no stage enters executed
 module _ (table : Table) (words : List ℕ) (handler : ℕ) (fetched : Fetched) where
   abbrev pub state_for : PacketState
-  state_for = if at_once fetched.instruction then executed_as (guess_of fetched) (effect_of table words handler fetched no_words) else Waiting
+  state_for =
+      if at_once fetched.instruction then executed_as (guess_of fetched) (effect_of table words handler fetched no_words)
+      else Waiting
 
   abbrev pub entering : Packet
   entering = record {

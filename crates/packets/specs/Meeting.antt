@@ -3,6 +3,7 @@ use Rattle.std.specs.Prelude.{ℕ, Bool, true, false, if◌then◌else◌, not, 
 use Rattle.instruction.specs.declared.numbers.Register.{Register}
 use Rattle.instruction.specs.declared.instructions.Instruction.{Instruction}
 use Rattle.instruction.specs.declared.instructions.Instruction.TheVariants as instruction
+use Rattle.instruction.specs.Named.{register_number}
 use Rattle.effect.specs.declared.actions.Action.{Action}
 use Rattle.effect.specs.declared.actions.Action.TheVariants.{Nothing, SetRegister, StoreWord, Trap, Halt}
 use Rattle.packets.specs.declared.bindings.Binding.{Binding}
@@ -50,7 +51,7 @@ abbrev pub behind : Action → Register → ℕ → ℕ
 behind Nothing register word = word
 behind (SetRegister destination written) register word = if same destination register then written else word
 behind (StoreWord address written) register word = word
-behind (Trap written) register word = if 15 == register.number then written else word
+behind (Trap written) register word = if 15 == register_number register then written else word
 behind Halt register word = word
 
 -- the value that goes on below a packet: what a waiting one will write itself vanishes

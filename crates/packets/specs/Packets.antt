@@ -1,6 +1,7 @@
 -- What a packet has, lacks, owes and writes.
 use Rattle.std.specs.Prelude.{ℕ, Bool, true, false, if◌then◌else◌, not, ◌&&◌, ◌||◌, is_some, Some, None, Option, ◌==◌}
 use Rattle.instruction.specs.declared.numbers.Register.{Register}
+use Rattle.instruction.specs.Named.{register_number}
 use Rattle.effect.specs.declared.actions.Action.{Action}
 use Rattle.effect.specs.declared.actions.Action.TheVariants.{Nothing, SetRegister, StoreWord, Trap, Halt}
 use Rattle.effect.specs.declared.actions.Effect.{Effect}
@@ -17,7 +18,7 @@ use Rattle.packets.specs.declared.results.PipeResult.TheVariants as result
 
 -- do two names mean one register
 abbrev pub same : Register → Register → Bool
-same r q = r.number == q.number
+same r q = register_number r == register_number q
 
 -- has the word of a source come: a literal's is there from the start
 abbrev pub valid : Source → Bool

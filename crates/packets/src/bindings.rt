@@ -1,7 +1,8 @@
 use instruction::Register;
 
 /// A source that is a register: its name, its word, and whether the word has come.
-// A core's binding has these three parts, so the bit stands beside the word, and is no `Option` of it.
+// A core's binding has these three parts, so the bit stands beside the word, and is no `Option` of
+// it.
 #[derive(Clone, Copy)]
 pub struct Binding {
     pub register: Register,

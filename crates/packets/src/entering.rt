@@ -57,7 +57,8 @@ impl Packet {
         unit: &U,
         memory: &R,
     ) -> Packet
-        ensures { result ≡ entering (U.Unit.table unit.now) (R.Readable.words memory.now) handler fetched }
+        ensures { result ≡
+            entering (U.Unit.table unit.now) (R.Readable.words memory.now) handler fetched }
     {
         let guess = guess(fetched);
         let operands = Operands::of(fetched.instruction);

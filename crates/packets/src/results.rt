@@ -1,7 +1,7 @@
 use instruction::Register;
 
-/// What descends the second pipe: a register's value, or the news that the path fetched is not the one
-/// to go on with.
+/// What descends the second pipe: a register's value, or the news that the path fetched is not the
+/// one to go on with.
 #[derive(Clone, Copy)]
 pub enum PipeResult {
     Value { register: Register, word: u32 },

@@ -41,7 +41,8 @@ impl PacketState {
 impl Packet {
     /// Works out what the instruction does with the packet's own words.
     fn execute<U: Unit, R: Readable>(&mut self, handler: u32, unit: &U, memory: &R)
-        ensures { self.new ≡ worked (U.Unit.table unit.now) (R.Readable.words memory.now) handler self.old }
+        ensures { self.new ≡
+            worked (U.Unit.table unit.now) (R.Readable.words memory.now) handler self.old }
     {
         let effect = self.fetched.effect(handler, self.sources(), unit, memory);
         self.state = PacketState::executed(self.guess, effect);
@@ -118,7 +119,8 @@ impl Stage {
 
     /// The packet is executed.
     pub fn execute<U: Unit, R: Readable>(&mut self, handler: u32, unit: &U, memory: &R)
-        ensures { self.new ≡ executing (U.Unit.table unit.now) (R.Readable.words memory.now) handler self.old }
+        ensures { self.new ≡
+            executing (U.Unit.table unit.now) (R.Readable.words memory.now) handler self.old }
     {
         if let Some(packet) = &mut self.packet {
             packet.execute(handler, unit, memory);

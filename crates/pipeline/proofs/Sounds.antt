@@ -2,6 +2,7 @@
 use Rattle.std.proofs.Common.{◌≡◌, ℕ, Bool, true, false, cond, leb, List, [], ◌∷◌, Some, None, Ok, Err, Option, Result, sym, refl, subst}
 use Rattle.fit.specs.Fitting.{All, placed}
 use Rattle.effect.specs.declared.actions.Retirement.{Retirement}
+use Rattle.effect.specs.Effects.{Table}
 use Rattle.moves.specs.declared.kinds.Move.{Move}
 use Rattle.moves.specs.Decoding.{number_of}
 use Rattle.stepper.specs.Machine.{World}
@@ -9,11 +10,16 @@ use Rattle.pipes.specs.declared.answers.Drain.{Drain}
 use Rattle.pipes.specs.declared.answers.DrainRefusal.{DrainRefusal}
 use Rattle.pipes.specs.declared.answers.MoveRefusal.{MoveRefusal}
 use Rattle.pipes.specs.declared.state.Pipes.{Pipes}
+use Rattle.pipes.specs.Moving.{Moved}
 use Rattle.pipes.specs.Running.{Tally, begun, counted, moved_in, tallied, ran_from, ran, retirements, finished, not_begun, run_of}
 use Rattle.pipes.specs.Draining.{drain_refusal, DrainsIf}
 use Rattle.draining.specs.Sound.{Sound}
 use Rattle.draining.proofs.Keeping.{fresh_sound, moved_sound}
 use Rattle.agreement.specs.Layouts.{Laid}
+use Rattle.agreement.proofs.Layouts.{read_laid}
+use Rattle.pipeline.specs.declared.pipelines.Pipeline.{Pipeline}
+use Rattle.pipeline.specs.Calls.{move_made}
+use Rattle.pipeline.specs.Views.{stages_in, world_in}
 use Rattle.agreement.specs.Successions.{Succession, built, move, run, drain}
 
 module _ (W : World) (sets : List ℕ) (fit : All (placed sets) W.program) (laid : Laid sets) where
@@ -48,3 +54,10 @@ module _ (W : World) (sets : List ℕ) (fit : All (placed sets) W.program) (laid
   succession_sound (move {P} {words} s kind place) = moved_sound W sets P words fit laid.low laid.high (succession_sound s) kind place
   succession_sound (run {P} {words} s ms room) = run_sound P words ms room (succession_sound s)
   succession_sound (drain {P} {words} s room answer ms P' words' k) = drain_sound P words ms P' words' (succession_sound s) (drain_refusal sets P room) answer k
+
+-- a move leaves the pipes of a pipeline sound
+pub move_sound : (table : Table) (p : Pipeline) (words : List ℕ) (kind place : ℕ) {d : Moved} → d ≡ move_made table p words kind place → Sound (stages_in p) d.pipes
+move_sound table p words kind place e =
+    let laid = read_laid p.layout in
+    let kept = moved_sound (world_in p table) (stages_in p) p.pipes words p.fits laid.low laid.high p.sound kind place in
+    subst (λ (x : Moved). Sound (stages_in p) x.pipes) (sym e) kept

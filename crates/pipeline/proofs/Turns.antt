@@ -1,4 +1,4 @@
--- One turn of a loop: a move on the image and layout that the loop began with.
+-- One turn of a loop: a move on the machine that the loop began with.
 use Rattle.std.proofs.Common.{◌≡◌, ℕ, List, ap, ◌∙◌}
 use Rattle.image.specs.declared.images.Image.{Image}
 use Rattle.layout.specs.declared.layouts.Layout.{Layout}
@@ -7,22 +7,17 @@ use Rattle.effect.specs.Effects.{Table}
 use Rattle.moves.specs.declared.kinds.Move.{Move}
 use Rattle.moves.specs.Decoding.{number_of}
 use Rattle.stepper.specs.View.{world_of}
-use Rattle.pipes.specs.declared.state.Pipes.{Pipes}
 use Rattle.pipes.specs.Moving.{Moved, moved}
+use Rattle.pipeline.specs.declared.pipelines.Pipeline.{Pipeline}
+use Rattle.pipeline.specs.Calls.{move_made}
+use Rattle.pipeline.specs.Views.{image_in, layout_in, pipes_in, stages_in, world_in, SameMachine}
 
-module _ (table : Table) {image image' : Image} {layout layout' : Layout} (Q : Pipes) (ws : List ℕ) (m : Move)
-    (i : image ≡ image') (l : layout ≡ layout') where
-  abbrev pub made : Image → Layout → Moved
-  made image layout = moved (world_of table image) (sets_in layout) Q ws (number_of m.kind) m.place
+pub machine_then : {old now new : Pipeline} → SameMachine old now → image_in new ≡ image_in now → layout_in new ≡ layout_in now → SameMachine old new
+machine_then same i l = record { image = i ∙ same.image; layout = l ∙ same.layout }
 
-  made_as : made image layout ≡ made image' layout'
-  made_as = ap (λ (x : Image). made x layout) i ∙ ap (λ (x : Layout). made image' x) l
-
-  pub turned_pipes : {d : Moved} → d ≡ made image layout → d.pipes ≡ (made image' layout').pipes
-  turned_pipes e = ap (λ (x : Moved). x.pipes) (e ∙ made_as)
-
-  pub turned_words : {d : Moved} → d ≡ made image layout → d.words ≡ (made image' layout').words
-  turned_words e = ap (λ (x : Moved). x.words) (e ∙ made_as)
-
-  pub turned_answer : {d : Moved} → d ≡ made image layout → d.answer ≡ (made image' layout').answer
-  turned_answer e = ap (λ (x : Moved). x.answer) (e ∙ made_as)
+pub turned : (table : Table) {before now : Pipeline} (words : List ℕ) (m : Move) {d : Moved} → SameMachine before now → d ≡ move_made table now words (number_of m.kind) m.place →
+    d ≡ moved (world_in before table) (stages_in before) (pipes_in now) words (number_of m.kind) m.place
+turned table {before} {now} words m same e =
+    e
+    ∙ ap (λ (x : Image). moved (world_of table x) (stages_in now) now.pipes words (number_of m.kind) m.place) same.image
+    ∙ ap (λ (x : Layout). moved (world_in before table) (sets_in x) now.pipes words (number_of m.kind) m.place) same.layout

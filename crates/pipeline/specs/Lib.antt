@@ -1,3 +1,3 @@
-pub mod Calls
 pub mod Views
+pub mod Calls
 pub mod Theorem

@@ -1,8 +1,8 @@
 ghost use Rattle.std.specs.Prelude.{◌≡◌, ◌≤◌, length, slice_index};
-ghost use Rattle.layout.specs.Meaning.{sets_in};
+ghost use Rattle.instruction.specs.Named.{register_number};
 ghost use Rattle.pipes.specs.Moving.{fresh};
 ghost use Rattle.pipeline.specs.Theorem.{NeverParted, AlwaysDrains};
-ghost use Rattle.pipeline.specs.Views.{slot_of};
+ghost use Rattle.pipeline.specs.Views.{image_in, layout_in, pipes_in, stages_in, slot_of};
 
 use crate::pipelines::Pipeline;
 use fit::Fitted;
@@ -13,14 +13,14 @@ use packets::Stage;
 use pipes::Pipes;
 
 impl<'a> Pipeline<'a> {
-    /// The fresh pipeline of a fitted pair: empty slots, fetch open at 0, registers 0, not halted. No
-    /// calls part it from another pipeline of the image, and it can always be drained.
+    /// The fresh pipeline of a fitted pair: empty slots, fetch open at 0, registers 0, not halted.
+    /// No calls part it from another pipeline of the image, and it can always be drained.
     pub fn build(fitted: Fitted<'a>) -> Pipeline<'a>
-        ensures image { result.image ≡ fitted.entry.image }
-        ensures layout { result.layout ≡ fitted.entry.layout }
-        ensures pipes { result.pipes ≡ fresh }
-        ensures parted { NeverParted result.image result.layout }
-        ensures drains { AlwaysDrains result.image result.layout }
+        ensures image { image_in result ≡ fitted.entry.image }
+        ensures layout { layout_in result ≡ fitted.entry.layout }
+        ensures pipes { pipes_in result ≡ fresh }
+        ensures parted { NeverParted (image_in result) (layout_in result) }
+        ensures drains { AlwaysDrains (image_in result) (layout_in result) }
     {
         let Fitted { image, layout } = fitted;
         Pipeline {
@@ -37,41 +37,41 @@ impl<'a> Pipeline<'a> {
 
     /// The image that it was built on.
     pub fn image(&self) -> Image<'a>
-        ensures { result ≡ self.now.image }
+        ensures { result ≡ image_in self.now }
     {
         self.image
     }
 
     /// The layout that it was built on.
     pub fn layout(&self) -> Layout<'a>
-        ensures { result ≡ self.now.layout }
+        ensures { result ≡ layout_in self.now }
     {
         self.layout
     }
 
     /// Has a halt retired?
     pub fn halted(&self) -> bool
-        ensures { result ≡ self.now.pipes.halted }
+        ensures { result ≡ (pipes_in self.now).halted }
     {
         self.pipes.halted
     }
 
     pub fn register(&self, register: Register) -> u32
-        ensures { result ≡ slice_index self.now.pipes.registers register.number }
+        ensures { result ≡ slice_index (pipes_in self.now).registers (register_number register) }
     {
         self.pipes.registers[register.index()]
     }
 
     /// The place at which fetch is open; none where it is closed.
     pub fn fetch(&self) -> Option<u32>
-        ensures { result ≡ self.now.pipes.fetch }
+        ensures { result ≡ (pipes_in self.now).fetch }
     {
         self.pipes.fetch
     }
 
     /// How many stages it has: 2 to 16.
     pub fn stages(&self) -> usize
-        ensures value { result ≡ length (sets_in self.now.layout) }
+        ensures value { result ≡ length (stages_in self.now) }
         ensures low { 2 ≤ result }
         ensures high { result ≤ 16 }
     {
@@ -80,7 +80,7 @@ impl<'a> Pipeline<'a> {
 
     /// What stands in a stage; none at or past the top.
     pub fn stage(&self, stage: usize) -> Option<Stage>
-        ensures { result ≡ slot_of (sets_in self.now.layout) self.now.pipes stage }
+        ensures { result ≡ slot_of self.now stage }
     {
         self.pipes.stages[..self.stages()].get(stage).copied()
     }

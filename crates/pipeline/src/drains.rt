@@ -1,9 +1,7 @@
-ghost use Rattle.std.specs.Prelude.{◌≡◌, ◌+◌, ◌≤◌, length};
-ghost use Rattle.bounded_log.specs.Entries.{logged, since};
-ghost use Rattle.bounded_log.specs.Room.{room};
+ghost use Rattle.std.specs.Prelude.{◌≡◌, length};
 ghost use Rattle.layout.specs.Meaning.{sets_in};
-ghost use Rattle.stepper.specs.View.{world_of};
-ghost use Rattle.pipes.specs.Draining.{bound, Drains};
+ghost use Rattle.pipes.specs.Draining.{bound, DrainsTo};
+ghost use Rattle.pipeline.specs.Views.{pipes_in, stages_in, world_in, SameMachine};
 
 use crate::pipelines::Pipeline;
 use bounded_log::Log;
@@ -23,21 +21,19 @@ fn most_moves(layout: &Layout<'_>) -> usize
 }
 
 impl<'a> Pipeline<'a> {
-    /// Makes moves until one instruction retires, logs them, and answers their number and the record.
-    /// Refused, with everything as it stood, where the pipeline has halted, and where the log has not
-    /// room for as many moves as a drain may make.
+    /// Makes moves until one instruction retires, logs them, and answers their number and the
+    /// record. Refused, with everything as it stood, where the pipeline has halted, and where the
+    /// log has not room for as many moves as a drain may make.
     pub fn drain<U: Unit, M: Memory>(
         &mut self,
         unit: &U,
         memory: &mut M,
         log: &mut Log<'_, Move>,
     ) -> Result<Drain, DrainRefusal>
-        ensures drained { Drains (world_of (U.Unit.table unit.now) self.old.image) (sets_in self.old.layout) self.old.pipes (M.Readable.words memory.old) (since log.old.count log.new.count log.new.places.now) self.new.pipes (M.Readable.words memory.new) (room log.old) result }
-        ensures places { log.new.places.now ≡ logged log.old.places.now log.old.count (since log.old.count log.new.count log.new.places.now) }
-        ensures count { log.new.count ≡ log.old.count + length (since log.old.count log.new.count log.new.places.now) }
-        ensures root { log.new.places.ghost_name ≡ log.old.places.ghost_name }
-        ensures image { self.new.image ≡ self.old.image }
-        ensures layout { self.new.layout ≡ self.old.layout }
+        ensures drained { DrainsTo (world_in self.old (U.Unit.table unit.now)) (stages_in self.old)
+            (pipes_in self.old) (M.Readable.words memory.old)
+            (pipes_in self.new) (M.Readable.words memory.new) log.old log.new result }
+        ensures machine { SameMachine self.old self.new }
         ensures kept { M.Memory.kept memory.new ≡ M.Memory.kept memory.old }
     {
         if self.pipes.halted {
@@ -46,7 +42,8 @@ impl<'a> Pipeline<'a> {
         if log.free() < most_moves(&self.layout) {
             return Err(DrainRefusal::ShortLog);
         }
-        // Counted here: the log may have had entries before.
+        // Counted here: the log's count takes in its entries from before the drain, and would have
+        // to be kept from before the loop and subtracted.
         let mut moves = 0usize;
         loop {
             let next = choose(&self.pipes, &self.layout);

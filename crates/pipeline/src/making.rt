@@ -1,9 +1,9 @@
 ghost use Rattle.std.specs.Prelude.{◌≡◌, ℕ, Ok, Err};
-ghost use Rattle.layout.specs.Meaning.{sets_in};
 ghost use Rattle.moves.specs.Decoding.{number_of, kind_of};
 ghost use Rattle.pipes.specs.Questions.{stage_at};
 ghost use Rattle.pipes.specs.Laws.{ApartBy};
 ghost use Rattle.pipeline.specs.Calls.{move_made};
+ghost use Rattle.pipeline.specs.Views.{pipes_in, stages_in, SameMachine};
 
 use crate::pipelines::Pipeline;
 use effect::Retirement;
@@ -21,9 +21,11 @@ impl<'a> Pipeline<'a> {
         unit: &U,
         memory: &mut M,
     ) -> Result<Option<Retirement>, MoveRefusal>
-        ensures made { record { answer = result; pipes = self.new.pipes; words = M.Readable.words memory.new } ≡ move_made (U.Unit.table unit.now) self.old (M.Readable.words memory.old) (number_of next.kind) next.place }
-        ensures image { self.new.image ≡ self.old.image }
-        ensures layout { self.new.layout ≡ self.old.layout }
+        ensures made { record
+            { answer = result; pipes = pipes_in self.new; words = M.Readable.words memory.new }
+            ≡ move_made (U.Unit.table unit.now) self.old (M.Readable.words memory.old)
+            (number_of next.kind) next.place }
+        ensures machine { SameMachine self.old self.new }
         ensures kept { M.Memory.kept memory.new ≡ M.Memory.kept memory.old }
     {
         make(
@@ -36,8 +38,8 @@ impl<'a> Pipeline<'a> {
         )
     }
 
-    /// Makes a move of any two numbers as kind and place, or turns it away with everything as it stood.
-    /// Answers a record exactly where a live packet retired.
+    /// Makes a move of any two numbers as kind and place, or turns it away with everything as it
+    /// stood. Answers a record exactly where a live packet retired.
     pub fn make_move<U: Unit, M: Memory>(
         &mut self,
         kind: u8,
@@ -45,11 +47,16 @@ impl<'a> Pipeline<'a> {
         unit: &U,
         memory: &mut M,
     ) -> Result<Option<Retirement>, MoveRefusal>
-        ensures made { record { answer = result; pipes = self.new.pipes; words = M.Readable.words memory.new } ≡ move_made (U.Unit.table unit.now) self.old (M.Readable.words memory.old) kind place }
-        ensures image { self.new.image ≡ self.old.image }
-        ensures layout { self.new.layout ≡ self.old.layout }
-        ensures refused { (f : MoveRefusal) → result ≡ Err f → (self.new.pipes ≡ self.old.pipes) × (M.Readable.words memory.new ≡ M.Readable.words memory.old) }
-        ensures others { (k : ℕ) → ApartBy (sets_in self.old.layout) (kind_of kind) place k → stage_at self.new.pipes k ≡ stage_at self.old.pipes k }
+        ensures made { record
+            { answer = result; pipes = pipes_in self.new; words = M.Readable.words memory.new }
+            ≡ move_made (U.Unit.table unit.now) self.old (M.Readable.words memory.old)
+            kind place }
+        ensures machine { SameMachine self.old self.new }
+        ensures refused { (f : MoveRefusal) → result ≡ Err f →
+            (pipes_in self.new ≡ pipes_in self.old)
+            × (M.Readable.words memory.new ≡ M.Readable.words memory.old) }
+        ensures others { (k : ℕ) → ApartBy (stages_in self.old) (kind_of kind) place k →
+            stage_at (pipes_in self.new) k ≡ stage_at (pipes_in self.old) k }
         ensures kept { M.Memory.kept memory.new ≡ M.Memory.kept memory.old }
     {
         make_move(

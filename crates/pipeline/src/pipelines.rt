@@ -7,9 +7,9 @@ use image::Image;
 use layout::Layout;
 use pipes::Pipes;
 
-/// A pipeline: the image and the layout that it was built on, and its pipes. Every instruction of the
-/// image has a stage of the layout, and the pipes are sound: whatever moves led to them, they can be
-/// drained.
+/// A pipeline: the image and the layout that it was built on, and its pipes. Every instruction of
+/// the image has a stage of the layout, and the pipes are sound: whatever moves led to them, they
+/// can be drained.
 #[derive(Clone, Copy)]
 pub struct Pipeline<'a> {
     pub(crate) image: Image<'a>,

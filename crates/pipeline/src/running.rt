@@ -1,9 +1,9 @@
-ghost use Rattle.std.specs.Prelude.{◌≡◌, ◌+◌, ◌<◌, ◌≤◌, length};
+ghost use Rattle.std.specs.Prelude.{◌≡◌, ◌<◌, ◌≤◌, length};
 ghost use Rattle.moves.specs.Meaning.{moves_in};
-ghost use Rattle.bounded_log.specs.Entries.{logged};
-ghost use Rattle.bounded_log.specs.Room.{room};
-ghost use Rattle.pipes.specs.Running.{retirements, figures_after, places_after, counted_after};
+ghost use Rattle.bounded_log.specs.Room.{room, Logs};
+ghost use Rattle.pipes.specs.Running.{retirements, figures_after, records_of, RunsTo};
 ghost use Rattle.pipeline.specs.Calls.{list_run};
+ghost use Rattle.pipeline.specs.Views.{pipes_in, SameMachine};
 
 use crate::pipelines::Pipeline;
 use bounded_log::Log;
@@ -29,11 +29,11 @@ fn note(
     log: &mut Log<'_, Retirement>,
     figures: &mut RunFigures,
 )
-    requires { (figures.old.accepted < 16000) × ((figures.old.turned_away < 16000) × (figures.old.live < 16000)) }
+    requires few { (figures.old.accepted < 16000)
+        × ((figures.old.turned_away < 16000) × (figures.old.live < 16000)) }
+    requires free { length (records_of answer) ≤ room log.old }
     ensures figures { figures.new ≡ figures_after answer figures.old }
-    ensures places { log.new.places.now ≡ places_after answer log.old.places.now log.old.count }
-    ensures count { log.new.count ≡ counted_after answer log.old.places.now log.old.count }
-    ensures root { log.new.places.ghost_name ≡ log.old.places.ghost_name }
+    ensures logs { Logs log.old log.new (records_of answer) }
 {
     match answer {
         Err(_) => figures.turned_away += 1,
@@ -47,8 +47,8 @@ fn note(
 }
 
 impl<'a> Pipeline<'a> {
-    /// Makes each move of a list, and logs the records of live retirements. Refused, with everything as
-    /// it stood, where the log has fewer free places than the list has retirements.
+    /// Makes each move of a list, and logs the records of live retirements. Refused, with
+    /// everything as it stood, where the log has fewer free places than the list has retirements.
     pub fn run<U: Unit, M: Memory>(
         &mut self,
         moves: &MoveList<'_>,
@@ -56,14 +56,11 @@ impl<'a> Pipeline<'a> {
         memory: &mut M,
         log: &mut Log<'_, Retirement>,
     ) -> Result<RunFigures, RunRefusal>
-        ensures value { result ≡ (list_run (U.Unit.table unit.now) self.old (M.Readable.words memory.old) (moves_in moves.now) (room log.old)).answer }
-        ensures pipes { self.new.pipes ≡ (list_run (U.Unit.table unit.now) self.old (M.Readable.words memory.old) (moves_in moves.now) (room log.old)).pipes }
-        ensures words { M.Readable.words memory.new ≡ (list_run (U.Unit.table unit.now) self.old (M.Readable.words memory.old) (moves_in moves.now) (room log.old)).words }
-        ensures places { log.new.places.now ≡ logged log.old.places.now log.old.count (list_run (U.Unit.table unit.now) self.old (M.Readable.words memory.old) (moves_in moves.now) (room log.old)).live }
-        ensures count { log.new.count ≡ log.old.count + length (list_run (U.Unit.table unit.now) self.old (M.Readable.words memory.old) (moves_in moves.now) (room log.old)).live }
-        ensures root { log.new.places.ghost_name ≡ log.old.places.ghost_name }
-        ensures image { self.new.image ≡ self.old.image }
-        ensures layout { self.new.layout ≡ self.old.layout }
+        ensures ran { RunsTo
+            (list_run (U.Unit.table unit.now) self.old
+            (M.Readable.words memory.old) (moves_in moves.now) (room log.old))
+            (pipes_in self.new) (M.Readable.words memory.new) log.old log.new result }
+        ensures machine { SameMachine self.old self.new }
         ensures kept { M.Memory.kept memory.new ≡ M.Memory.kept memory.old }
     {
         if log.free() < retirements(moves) {

@@ -1,5 +1,8 @@
 -- What a drain does: a run of accepted moves, few enough, in which just one instruction retires.
 use Rattle.std.specs.Prelude.{◌≡◌, ℕ, ◌+◌, ◌*◌, ◌≤◌, cond, List, [], ◌∷◌, length, Some, None, Ok, Err, Option, Result, nat_le}
+use Rattle.bounded_log.specs.declared.places.Log.{Log}
+use Rattle.bounded_log.specs.Entries.{since}
+use Rattle.bounded_log.specs.Room.{places_in, count_in, room, Logs}
 use Rattle.effect.specs.declared.actions.Retirement.{Retirement}
 use Rattle.moves.specs.declared.kinds.Move.{Move}
 use Rattle.stepper.specs.Machine.{World}
@@ -21,8 +24,8 @@ bound n = 2 * (n * n) + 4 * n + 8
 abbrev pub drain_refusal : List ℕ → Pipes → ℕ → Option DrainRefusal
 drain_refusal sets P room = cond P.halted (Some Halted) (cond (nat_le (bound (length sets)) room) None (Some ShortLog))
 
--- The moves, made one by one, are each accepted; they lead from one state to the other, and give just
--- one record.
+-- The moves, made one by one, are each accepted; they lead from one state to the other, and give
+-- just one record.
 pub record Drained (W : World) (sets : List ℕ) (P : Pipes) (words : List ℕ) (moves : List Move) (retirement : Retirement) (P' : Pipes) (words' : List ℕ) : Type 0 where
   pub none_turned_away : (ran W sets P words moves).turned_away ≡ 0
   pub leads : (ran W sets P words moves).pipes ≡ P'
@@ -30,7 +33,8 @@ pub record Drained (W : World) (sets : List ℕ) (P : Pipes) (words : List ℕ) 
   pub one : (ran W sets P words moves).live ≡ retirement ∷ []
   pub few : length moves ≤ bound (length sets)
 
--- a drain's answer, the moves that it logs, and what it leaves; refused, it logs none and changes nothing
+-- a drain's answer, the moves that it logs, and what it leaves; refused, it logs none and changes
+-- nothing
 module _ (W : World) (sets : List ℕ) (P : Pipes) (words : List ℕ) (moves : List Move) (P' : Pipes) (words' : List ℕ) where
   abbrev pub DrainsIf : Option DrainRefusal → Result Drain DrainRefusal → Type 0
   DrainsIf (Some f) (Ok d) = ⊥
@@ -40,3 +44,13 @@ module _ (W : World) (sets : List ℕ) (P : Pipes) (words : List ℕ) (moves : L
 
   abbrev pub Drains : ℕ → Result Drain DrainRefusal → Type 0
   Drains room answer = DrainsIf (drain_refusal sets P room) answer
+
+-- the moves that were logged from one log to the other
+abbrev pub moves_between : Log Move → Log Move → List Move
+moves_between old new = since (count_in old) (count_in new) (places_in new)
+
+-- a drain's answer, and the pipes, the words and the log that it leaves
+pub record DrainsTo (W : World) (sets : List ℕ) (P : Pipes) (words : List ℕ) (P' : Pipes)
+    (words' : List ℕ) (old new : Log Move) (answer : Result Drain DrainRefusal) : Type 0 where
+  pub drained : Drains W sets P words (moves_between old new) P' words' (room old) answer
+  pub logs : Logs old new (moves_between old new)

@@ -1,6 +1,7 @@
 -- A list of moves, one after another.
-use Rattle.std.specs.Prelude.{ℕ, ◌+◌, Bool, cond, count_by, List, [], ◌∷◌, ◌++◌, length, Some, None, Ok, Err, Option, Result, ◌==◌, nat_le}
-use Rattle.bounded_log.specs.Entries.{added_to, count_after}
+use Rattle.std.specs.Prelude.{◌≡◌, ℕ, ◌+◌, Bool, cond, count_by, List, [], ◌∷◌, ◌++◌, length, Some, None, Ok, Err, Option, Result, ◌==◌, nat_le}
+use Rattle.bounded_log.specs.declared.places.Log.{Log}
+use Rattle.bounded_log.specs.Room.{Logs}
 use Rattle.effect.specs.declared.actions.Retirement.{Retirement}
 use Rattle.stepper.specs.Machine.{World}
 use Rattle.moves.specs.declared.kinds.Move.{Move}
@@ -73,18 +74,22 @@ not_begun P words = record { answer = Err ShortLog; pipes = P; words = words; li
 abbrev pub run_of : World → List ℕ → Pipes → List ℕ → List Move → ℕ → Run
 run_of W sets P words ms room = cond (nat_le (retirements ms) room) (finished (ran W sets P words ms)) (not_begun P words)
 
--- what a move's answer adds to the figures of a run, and to its log
+-- what a move's answer adds to the figures of a run
 abbrev pub figures_after : Result (Option Retirement) MoveRefusal → RunFigures → RunFigures
 figures_after (Ok None) f = record { accepted = f.accepted + 1; turned_away = f.turned_away; live = f.live }
 figures_after (Ok (Some r)) f = record { accepted = f.accepted + 1; turned_away = f.turned_away; live = f.live + 1 }
 figures_after (Err refusal) f = record { accepted = f.accepted; turned_away = f.turned_away + 1; live = f.live }
 
-abbrev pub places_after : Result (Option Retirement) MoveRefusal → List Retirement → ℕ → List Retirement
-places_after (Ok None) places count = places
-places_after (Ok (Some r)) places count = added_to places count r
-places_after (Err refusal) places count = places
+-- the records that a move's answer gives: one, where a live packet retired
+abbrev pub records_of : Result (Option Retirement) MoveRefusal → List Retirement
+records_of (Ok None) = []
+records_of (Ok (Some r)) = r ∷ []
+records_of (Err refusal) = []
 
-abbrev pub counted_after : Result (Option Retirement) MoveRefusal → List Retirement → ℕ → ℕ
-counted_after (Ok None) places count = count
-counted_after (Ok (Some r)) places count = count_after places count
-counted_after (Err refusal) places count = count
+-- a run's answer, and the pipes, the words and the log that it leaves
+pub record RunsTo (R : Run) (P' : Pipes) (words' : List ℕ) (old new : Log Retirement)
+    (answer : Result RunFigures RunRefusal) : Type 0 where
+  pub value : answer ≡ R.answer
+  pub pipes : P' ≡ R.pipes
+  pub words : words' ≡ R.words
+  pub logs : Logs old new R.live

@@ -14,7 +14,8 @@ pub enum MoveRefusal {
     NoStage = 38,
 }
 
-/// How a run went: how many moves were accepted and turned away, and how many retirements were live.
+/// How a run went: how many moves were accepted and turned away, and how many retirements were
+/// live.
 #[derive(Clone, Copy, Debug, PartialEq)]
 pub struct RunFigures {
     pub accepted: usize,
@@ -35,7 +36,8 @@ pub struct Drain {
     pub retirement: Retirement,
 }
 
-/// Why a drain is refused: the pipeline has halted, or the log has too few free places for its moves.
+/// Why a drain is refused: the pipeline has halted, or the log has too few free places for its
+/// moves.
 #[derive(Clone, Copy, Debug, PartialEq)]
 pub enum DrainRefusal {
     Halted = 30,

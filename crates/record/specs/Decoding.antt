@@ -17,7 +17,13 @@ use Rattle.instruction.specs.Named.{register, unit_op}
 -- the fields of a record, in the order of their bytes
 abbrev pub record_of : List ℕ → Record
 record_of bytes =
-    record { operation = byte_at bytes 0; destination = byte_at bytes 1; first = byte_at bytes 2; second = byte_at bytes 3; literal = four_at bytes 4 }
+    record {
+      operation = byte_at bytes 0;
+      destination = byte_at bytes 1;
+      first = byte_at bytes 2;
+      second = byte_at bytes 3;
+      literal = four_at bytes 4;
+    }
 
 abbrev pub uses : FieldUse → FieldUse → FieldUse → FieldUse → Shape
 uses destination first second literal = record { destination = destination; first = first; second = second; literal = literal }

@@ -63,7 +63,9 @@ impl Record {
     /// The record in the first eight bytes, and the bytes after it; none where there are fewer.
     #[tactic(auto, using(std::proofs::lemmas::List::take_rest))]
     pub fn split(bytes: &[u8]) -> Option<(Record, &[u8])>
-        ensures { MatchOption result (length bytes.now < 8) (λ p. (8 ≤ length bytes.now) × (p.0 ≡ record_of bytes.now) × (p.1.now ≡ drop 8 bytes.now)) }
+        ensures { MatchOption result (length bytes.now < 8)
+            (λ p. (8 ≤ length bytes.now) × (p.0 ≡ record_of bytes.now) ×
+            (p.1.now ≡ drop 8 bytes.now)) }
     {
         let [
             operation,
@@ -92,8 +94,8 @@ impl Record {
         ))
     }
 
-    /// Is each field a use of its shape? If not, the first that is none: first those out of range, then
-    /// those that should be 0.
+    /// Is each field a use of its shape? If not, the first that is none: first those out of range,
+    /// then those that should be 0.
     fn check(self, shape: Shape) -> Result<(), RecordFault>
         ensures { result ≡ verdict (fault_of shape self) }
     {
@@ -133,15 +135,17 @@ impl Record {
         }
     }
 
-    /// The instruction of the operation and the fields, whether or not they are without fault; none where
-    /// the operation is not in the table.
+    /// The instruction of the operation and the fields, whether or not they are without fault; none
+    /// where the operation is not in the table.
     fn built(self) -> Option<Instruction>
-        ensures { MatchOption result (shape_of self.operation self.second ≡ None) (λ i. (i ≡ built_of self) × (shape_of self.operation self.second ≡ Some (shape_for i))) }
+        ensures { MatchOption result (shape_of self.operation self.second ≡ None)
+            (λ i. (i ≡ built_of self) × (shape_of self.operation self.second ≡ Some (shape_for i))) }
     {
         let Record { literal, .. } = self;
         let destination = Register::named(self.destination);
         let first = Register::named(self.first);
         let second = Register::named(self.second);
+        // A record's operation is a byte of the file, and here alone each byte gets its meaning.
         let instruction = match self.operation {
             0 => Instruction::Halt,
             1 => Instruction::Jump { target: literal },

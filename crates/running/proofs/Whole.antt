@@ -1,15 +1,13 @@
 -- What was read, fitted and run, put together.
-use Rattle.std.proofs.Common.{◌≡◌, ℕ, ◌+◌, ◌-◌, Bool, List, ◌++◌, length, take, drop, Ok, Err, IsErrAnd, Result, sym, refl, ap, ◌∙◌, subst, arith, take-append-drop}
+use Rattle.std.proofs.Common.{◌≡◌, ℕ, Bool, List, ◌++◌, take, drop, Ok, Err, IsErrAnd, Result, sym, refl, ap, ◌∙◌, subst, take-append-drop}
 use Rattle.bounded_log.specs.declared.places.Log.{Log}
 use Rattle.image.specs.declared.images.Image.{Image}
-use Rattle.image.specs.Meaning.{program}
 use Rattle.layout.specs.declared.layouts.Layout.{Layout}
 use Rattle.layout.specs.Meaning.{sets_in}
 use Rattle.moves.specs.Meaning.{moves_in}
 use Rattle.effect.specs.declared.actions.Retirement.{Retirement}
 use Rattle.effect.specs.Effects.{Table}
-use Rattle.bounded_log.specs.Entries.{logged}
-use Rattle.stepper.specs.Machine.{World}
+use Rattle.bounded_log.specs.Room.{room, Logs}
 use Rattle.stepper.specs.View.{world_of}
 use Rattle.job.specs.declared.faults.JobFault.{JobFault}
 use Rattle.job.specs.Reading.{Contents}
@@ -21,66 +19,68 @@ use Rattle.pipes.specs.declared.answers.RunFigures.{RunFigures}
 use Rattle.pipes.specs.declared.answers.RunRefusal.{RunRefusal}
 use Rattle.pipes.specs.declared.state.Pipes.{Pipes}
 use Rattle.pipes.specs.Moving.{fresh}
-use Rattle.pipes.specs.Running.{Run, run_of, not_begun}
-use Rattle.bounded_log.proofs.Logging.{logged_none}
+use Rattle.pipeline.specs.declared.pipelines.Pipeline.{Pipeline}
+use Rattle.pipeline.specs.Calls.{list_run}
+use Rattle.pipeline.specs.Views.{image_in, layout_in, pipes_in, stages_in}
+use Rattle.pipes.specs.Running.{Run, run_of, not_begun, RunsTo}
+use Rattle.pipes.proofs.Logged.{logs_none}
 use Rattle.pipes.proofs.Runs.{run_refused}
 use Rattle.running.specs.declared.answers.JobRun.{JobRun}
 use Rattle.running.specs.declared.answers.JobRunFault.{JobRunFault}
 use Rattle.running.specs.declared.answers.JobRunFault.TheVariants as fault
 use Rattle.running.specs.Jobs.{run_in, world_in, RunsIf, JobRuns, kept}
-use Rattle.running.specs.Overs.{RanOver}
 
 -- an error that is told is the answer
-pub err_is : {A B : Type 0} (r : Result A B) (x : B) → IsErrAnd r (λ e. e ≡ x) → r ≡ Err x
+err_is : {A B : Type 0} (r : Result A B) (x : B) → IsErrAnd r (λ e. e ≡ x) → r ≡ Err x
 err_is (Ok a) x h = elim h [ ]
 err_is (Err e) x h = ap Err h
 
 -- the clauses of `run_job`
 pub record Promised (table : Table) (known : ℕ) (words words' : List ℕ) (log log' : Log Retirement) (read : Result Contents JobFault) (r : Result JobRun JobRunFault) : Type 0 where
-  pub value : JobRuns table known words (length log.places.now - log.count) read r
-  pub lent : words' ≡ (kept words log.places.now log.count table read r).words_are
-  pub places : log'.places.now ≡ (kept words log.places.now log.count table read r).places_are
-  pub count : log'.count ≡ (kept words log.places.now log.count table read r).count_is
+  pub value : JobRuns table known words (room log) read r
+  pub lent : words' ≡ (kept words table (room log) read r).words_are
+  pub logs : Logs log log' (kept words table (room log) read r).records
 
 module _ (table : Table) (known : ℕ) (words : List ℕ) (log : Log Retirement) where
   misfits : (job : Contents) (R : Run) (answer : Result RunFigures RunRefusal) (f : CheckFault) → Misfit known job f → RunsIf known job R answer (Err (fault.Check f))
   misfits job R (Ok figures) f h = h
   misfits job R (Err refusal) f h = h
 
-  -- a job that is refused before it is run
-  pub unchecked : (read : Result Contents JobFault) (f : CheckFault) → FittedAs known read (Err f) → Promised table known words words log log read (Err (fault.Check f))
-  unchecked (Err e) f h = record { value = ap (λ (x : CheckFault). Err (fault.Check x)) h; lent = refl; places = refl; count = refl }
-  unchecked (Ok job) f h = record {
-    value = misfits job (run_in table words (length log.places.now - log.count) job) (run_in table words (length log.places.now - log.count) job).answer f h;
+  refused_first : (read : Result Contents JobFault) (f : CheckFault) → FittedAs known read (Err f) → Promised table known words words log log read (Err (fault.Check f))
+  refused_first (Err e) f h = record { value = ap (λ (x : CheckFault). Err (fault.Check x)) h; lent = refl; logs = logs_none refl }
+  refused_first (Ok job) f h = record {
+    value = misfits job (run_in table words (room log) job) (run_in table words (room log) job).answer f h;
     lent = refl;
-    places = refl;
-    count = refl;
+    logs = logs_none refl;
   }
 
--- the run of the pipeline that was built is the run of the job
-pub run_is : (table : Table) (words : List ℕ) (room : ℕ) (image : Image) (layout : Layout) (P : Pipes) (job : FittedJob) →
-    image ≡ job.fitted.image → layout ≡ job.fitted.layout → P ≡ fresh →
-    run_of (world_of table image) (sets_in layout) P (take 65536 words) (moves_in job.moves) room ≡ run_in table words room (contents_of job)
-run_is table words room image layout P job i l p =
-    let world : Image → World = λ x. record { table = table; program = program x; handler = x.head.handler } in
-    ap (λ (x : Image). run_of (world x) (sets_in layout) P (take 65536 words) (moves_in job.moves) room) i
-    ∙ ap (λ (x : Layout). run_of (world job.fitted.image) (sets_in x) P (take 65536 words) (moves_in job.moves) room) l
-    ∙ ap (λ (x : Pipes). run_of (world job.fitted.image) (sets_in job.fitted.layout) x (take 65536 words) (moves_in job.moves) room) p
+  -- a job that is refused before it is run
+  pub unchecked : (read : Result Contents JobFault) (f : CheckFault) {r : Result JobRun JobRunFault} → FittedAs known read (Err f) → IsErrAnd r (λ e. e ≡ fault.Check f) → Promised table known words words log log read r
+  unchecked read f {r} h e = subst (λ (x : Result JobRun JobRunFault). Promised table known words words log log read x) (sym (err_is r (fault.Check f) e)) (refused_first read f h)
 
-pub ran_as : {R R' : Run} {P' : Pipes} {ws : List ℕ} {log log' : Log Retirement} {a : Result RunFigures RunRefusal} → R ≡ R' → RanOver R P' ws log log' a → RanOver R' P' ws log log' a
-ran_as {P'} {ws} {log} {log'} {a} e o = subst (λ (x : Run). RanOver x P' ws log log' a) e o
+-- the run of the pipeline that was built is the run of the job
+module _ (table : Table) (words : List ℕ) (p : Pipeline) (job : FittedJob) (i : image_in p ≡ job.fitted.image) (l : layout_in p ≡ job.fitted.layout) (b : pipes_in p ≡ fresh) where
+  run_is : (free : ℕ) → list_run table p (take 65536 words) (moves_in job.moves) free ≡ run_in table words free (contents_of job)
+  run_is free =
+      ap (λ (x : Image). run_of (world_of table x) (stages_in p) p.pipes (take 65536 words) (moves_in job.moves) free) i
+      ∙ ap (λ (x : Layout). run_of (world_of table job.fitted.image) (sets_in x) p.pipes (take 65536 words) (moves_in job.moves) free) l
+      ∙ ap (λ (x : Pipes). run_of (world_of table job.fitted.image) (sets_in job.fitted.layout) x (take 65536 words) (moves_in job.moves) free) b
+
+  pub ran_job : {P' : Pipes} {ws : List ℕ} {log log' : Log Retirement} {a : Result RunFigures RunRefusal} → RunsTo (list_run table p (take 65536 words) (moves_in job.moves) (room log)) P' ws log log' a →
+      RunsTo (run_in table words (room log) (contents_of job)) P' ws log log' a
+  ran_job {P'} {ws} {log} {log'} {a} o = subst (λ (R : Run). RunsTo R P' ws log log' a) (run_is (room log)) o
 
 module _ (table : Table) (known : ℕ) (words words' : List ℕ) (log log' : Log Retirement) (job : FittedJob) (P' : Pipes)
     (beyond : drop 65536 words' ≡ drop 65536 words) where
   abbrev R : Contents → Run
-  R job = run_in table words (length log.places.now - log.count) job
+  R job = run_in table words (room log) job
 
   together : (ws : List ℕ) → take 65536 words' ≡ ws → words' ≡ ws ++ drop 65536 words
   together ws e = sym (take-append-drop 65536 words') ∙ ap (λ (x : List ℕ). x ++ drop 65536 words') e ∙ ap (λ (x : List ℕ). ws ++ x) beyond
 
   -- a job that is run
   pub went : (read : Result Contents JobFault) (run : RunFigures) (sized : JobFigures) (halted : Bool) → FittedAs known read (Ok job) →
-      RanOver (R (contents_of job)) P' (take 65536 words') log log' (Ok run) → sized ≡ figures_of (contents_of job) → halted ≡ P'.halted →
+      RunsTo (R (contents_of job)) P' (take 65536 words') log log' (Ok run) → sized ≡ figures_of (contents_of job) → halted ≡ P'.halted →
       Promised table known words words' log log' read (Ok (record { job = sized; run = run; halted = halted }))
   went (Err e) run sized halted h o s t = absurd h
   went (Ok told) run sized halted h o s t =
@@ -94,21 +94,23 @@ module _ (table : Table) (known : ℕ) (words words' : List ℕ) (log log' : Log
             subst (λ (a : Result RunFigures RunRefusal). RunsIf known told (R told) a (Ok (whole sized halted))) answer
             (ap (λ (a : JobFigures). whole a halted) figures ∙ ap (whole (figures_of told)) stopped, h.1);
         lent = together (R told).words (o.words ∙ ap (λ (x : Run). x.words) same);
-        places = o.places ∙ ap (λ (x : Run). logged log.places.now log.count x.live) same;
-        count = o.count ∙ ap (λ (x : Run). log.count + length x.live) same;
+        logs = subst (λ (x : Run). Logs log log' x.live) same o.logs;
       }
 
-  -- a job that fits, with too short a log
-  pub short : (read : Result Contents JobFault) (f : RunRefusal) → FittedAs known read (Ok job) →
-      RanOver (R (contents_of job)) P' (take 65536 words') log log' (Err f) → Promised table known words words' log log' read (Err (fault.Run f))
-  short (Err e) f h o = absurd h
-  short (Ok told) f h o =
+  stopped : (read : Result Contents JobFault) (f : RunRefusal) → FittedAs known read (Ok job) →
+      RunsTo (R (contents_of job)) P' (take 65536 words') log log' (Err f) → Promised table known words words' log log' read (Err (fault.Run f))
+  stopped (Err e) f h o = absurd h
+  stopped (Ok told) f h o =
       let same = ap R h.0 in
       let answer = o.value ∙ ap (λ (x : Run). x.answer) same in
-      let none : R told ≡ not_begun fresh (take 65536 words) = run_refused (world_in table told) told.sets fresh (take 65536 words) told.moves (length log.places.now - log.count) f answer in
+      let none : R told ≡ not_begun fresh (take 65536 words) = run_refused (world_in table told) told.sets fresh (take 65536 words) told.moves (room log) f answer in
       record {
         value = subst (λ (a : Result RunFigures RunRefusal). RunsIf known told (R told) a (Err (fault.Run f))) answer (refl, h.1);
         lent = together (take 65536 words) (o.words ∙ ap (λ (x : Run). x.words) (same ∙ none)) ∙ take-append-drop 65536 words;
-        places = o.places ∙ ap (λ (x : Run). logged log.places.now log.count x.live) (same ∙ none) ∙ logged_none log.places.now log.count;
-        count = o.count ∙ ap (λ (x : Run). log.count + length x.live) (same ∙ none) ∙ omega arith;
+        logs = subst (λ (x : Run). Logs log log' x.live) (same ∙ none) o.logs;
       }
+
+  -- a job that fits, with too short a log
+  pub short : (read : Result Contents JobFault) (f : RunRefusal) {r : Result JobRun JobRunFault} → FittedAs known read (Ok job) →
+      RunsTo (R (contents_of job)) P' (take 65536 words') log log' (Err f) → IsErrAnd r (λ e. e ≡ fault.Run f) → Promised table known words words' log log' read r
+  short read f {r} h o e = subst (λ (x : Result JobRun JobRunFault). Promised table known words words' log log' read x) (sym (err_is r (fault.Run f) e)) (stopped read f h o)

@@ -1,4 +1,5 @@
--- How the end of a run is printed: its live retirements, the moves accepted and turned away, and whether it halted, a blank between.
+-- How the end of a run is printed: its live retirements, the moves accepted and turned away, and
+-- whether it halted, a blank between.
 use Rattle.std.specs.Prelude.{ℕ, List, ◌∷◌, ◌++◌, decimal, if◌then◌else◌}
 use Rattle.pipes.specs.declared.answers.RunFigures.{RunFigures}
 use Rattle.running.specs.declared.answers.JobRun.{JobRun}

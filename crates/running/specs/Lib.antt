@@ -1,4 +1,3 @@
 pub mod Refusals
 pub mod Jobs
-pub mod Overs
 pub mod Figures

@@ -4,7 +4,8 @@ ghost use Rattle.running.specs.declared.answers.JobRunFault.TheVariants.{Check, 
 use checking::{CheckFault, JobFigures};
 use pipes::{RunFigures, RunRefusal};
 
-/// How the run of a job went: how large the job is, what became of its moves, and whether it halted.
+/// How the run of a job went: how large the job is, what became of its moves, and whether it
+/// halted.
 #[derive(Clone, Copy, Debug, PartialEq)]
 pub struct JobRun {
     pub job: JobFigures,

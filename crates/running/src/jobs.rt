@@ -1,9 +1,10 @@
 ghost use Rattle.std.specs.Prelude.{◌≡◌, take, drop};
-ghost use Rattle.bounded_log.specs.Room.{room};
+ghost use Rattle.bounded_log.specs.Room.{room, Logs};
 ghost use Rattle.moves.specs.Meaning.{moves_in};
+ghost use Rattle.pipes.specs.Running.{RunsTo};
 ghost use Rattle.pipeline.specs.Calls.{list_run};
+ghost use Rattle.pipeline.specs.Views.{pipes_in};
 ghost use Rattle.job.specs.Reading.{job_of};
-ghost use Rattle.running.specs.Overs.{RanOver};
 ghost use Rattle.running.specs.Jobs.{JobRuns, kept};
 
 use crate::answers::{JobRun, JobRunFault};
@@ -25,26 +26,30 @@ fn run_over<'a, U: Unit>(
     words: &mut [u32],
     log: &mut Log<'_, Retirement>,
 ) -> Result<RunFigures, RunRefusal>
-    ensures ran { RanOver (list_run (U.Unit.table unit.now) pipeline.old (take 65536 words.old) (moves_in moves.now) (room log.old)) pipeline.new.pipes (take 65536 words.new) log.old log.new result }
+    ensures ran { RunsTo
+        (list_run (U.Unit.table unit.now) pipeline.old
+        (take 65536 words.old) (moves_in moves.now) (room log.old))
+        (pipes_in pipeline.new) (take 65536 words.new) log.old log.new result }
     ensures beyond { drop 65536 words.new ≡ drop 65536 words.old }
 {
     let mut memory = LentWords::new(words);
     pipeline.run(moves, unit, &mut memory, log)
 }
 
-/// Reads a job, fits it, builds its pipeline and runs its moves over the lent words; logs the records
-/// of live retirements. A refused job leaves words and log as they were.
+/// Reads a job, fits it, builds its pipeline and runs its moves over the lent words; logs the
+/// records of live retirements. A refused job leaves words and log as they were.
 pub fn run_job<U: Unit>(
     bytes: &[u8],
     unit: &U,
     words: &mut [u32],
     log: &mut Log<'_, Retirement>,
 ) -> Result<JobRun, JobRunFault>
-    ensures value { JobRuns (U.Unit.table unit.now) U.Unit.KNOWN words.old (room log.old) (job_of bytes.now) result }
-    ensures words { words.new ≡ (kept words.old log.old.places.now log.old.count (U.Unit.table unit.now) (job_of bytes.now) result).words_are }
-    ensures places { log.new.places.now ≡ (kept words.old log.old.places.now log.old.count (U.Unit.table unit.now) (job_of bytes.now) result).places_are }
-    ensures count { log.new.count ≡ (kept words.old log.old.places.now log.old.count (U.Unit.table unit.now) (job_of bytes.now) result).count_is }
-    ensures root { log.new.places.ghost_name ≡ log.old.places.ghost_name }
+    ensures value { JobRuns (U.Unit.table unit.now) U.Unit.KNOWN words.old (room log.old)
+        (job_of bytes.now) result }
+    ensures words { words.new ≡ (kept words.old (U.Unit.table unit.now) (room log.old)
+        (job_of bytes.now) result).words_are }
+    ensures logs { Logs log.old log.new (kept words.old (U.Unit.table unit.now) (room log.old)
+        (job_of bytes.now) result).records }
 {
     let fitted_job = fit_job::<U>(bytes)?;
     let job = fitted_job.figures();

@@ -10,7 +10,8 @@ use std::fmt;
 impl From<JobRunFault> for Refusal {
     ghost from_gives = { λ fault refusal. refusal ≡ job_run_refusal fault };
 
-    /// The number and the byte place, which counts from the job's first byte; a short log has place 0.
+    /// The number and the byte place, which counts from the job's first byte; a short log has place
+    /// 0.
     fn from(fault: JobRunFault) -> Refusal {
         match fault {
             JobRunFault::Check(fault) => Refusal::from(fault),

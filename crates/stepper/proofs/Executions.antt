@@ -1,8 +1,9 @@
 -- Executions of so many steps and so many more, and how far a run has come.
-use Rattle.std.proofs.Common.{◌≡◌, ℕ, zero, suc, ◌+◌, ◌-◌, ◌<◌, ◌≤◌, Bool, true, false, cond, List, [], ◌∷◌, ◌++◌, length, set, Ok, Err, sym, refl, ap, ◌∙◌, append-nil, zero-add, suc-add, arith, length-append, length-set}
+use Rattle.std.proofs.Common.{◌≡◌, ℕ, zero, suc, ◌+◌, ◌-◌, ◌≤◌, Bool, true, false, cond, [], ◌∷◌, ◌++◌, length, Ok, Err, sym, refl, ap, ◌∙◌, append-nil, zero-add, suc-add, arith, length-append}
 use Rattle.effect.specs.declared.actions.Retirement.{Retirement}
-use Rattle.bounded_log.specs.Entries.{logged}
-use Rattle.bounded_log.proofs.Logging.{logged_more}
+use Rattle.bounded_log.specs.declared.places.Log.{Log}
+use Rattle.bounded_log.specs.Room.{Logs}
+use Rattle.bounded_log.proofs.Logged.{logs_then}
 use Rattle.stepper.specs.declared.state.StepFault.{StepFault}
 use Rattle.stepper.specs.Machine.{World, State, stepped, retired, answer_of, execution, records}
 
@@ -40,38 +41,29 @@ module _ (W : World) (T : State) where
   pub answered_err : (f : StepFault) → Err f ≡ answer_of W T → T.halted ≡ true
   answered_err f e = grind arith
 
--- A run made i steps, from S to T: as an execution of n steps makes them. The log over xs, which had c entries,
--- went on to ys.
-pub record Reached (W : World) (n : ℕ) (S T : State) (c i : ℕ) (xs ys : List Retirement) : Type 0 where
+-- a run made i steps, from S to T, and logged their records: as an execution of n steps makes them
+pub record Reached (W : World) (n : ℕ) (S T : State) (i : ℕ) (log log' : Log Retirement) : Type 0 where
   pub steps : i ≡ length (records W n S)
-  pub places : ys ≡ logged xs c (records W n S)
-  pub wide : length ys ≡ length xs
+  pub logs : Logs log log' (records W n S)
   pub state : T ≡ execution W n S
 
-module _ (W : World) (S : State) (c : ℕ) (xs : List Retirement) where
+module _ (W : World) (S : State) {log now : Log Retirement} where
   -- one step more
-  pub reached_more : (i : ℕ) (T T' : State) (ys zs : List Retirement) (x : Retirement) → c + i < length xs → Reached W i S T c i xs ys → T.halted ≡ false →
-      T' ≡ stepped W T → x ≡ retired W T → zs ≡ set ys (c + i) x → Reached W (i + 1) S T' c (i + 1) xs zs
-  reached_more i T T' ys zs x l r h onward told set_at =
+  pub reached_more : (i : ℕ) (T T' : State) {new : Log Retirement} → Reached W i S T i log now → T.halted ≡ false → T' ≡ stepped W T → Logs now new (retired W T ∷ []) →
+      Reached W (i + 1) S T' (i + 1) log new
+  reached_more i T T' {new} r h onward one =
       let rs = records W i S in
-      let one : records W 1 (execution W i S) ≡ x ∷ [] = rw (← r.state, told) (rw h) in
-      let more : records W (i + 1) S ≡ rs ++ (x ∷ []) = records_more W i 1 S ∙ ap (λ us. rs ++ us) one in
-      let inside : c + length (records W i S) < length xs = omega (arith, r.steps) in
+      let last : records W 1 (execution W i S) ≡ retired W T ∷ [] = rw (← r.state) (rw h) in
+      let more : records W (i + 1) S ≡ rs ++ (retired W T ∷ []) = records_more W i 1 S ∙ ap (λ us. rs ++ us) last in
       record {
-        steps = rw (more, length-append rs (x ∷ [])) (omega (arith, r.steps));
-        places =
-            set_at
-            ∙ ap (λ us. set us (c + i) x) r.places
-            ∙ ap (λ k. set (logged xs c rs) (c + k) x) r.steps
-            ∙ logged_more xs c rs x inside
-            ∙ ap (logged xs c) (sym more);
-        wide = ap length set_at ∙ length-set ys (c + i) x ∙ r.wide;
+        steps = rw (more, length-append rs (retired W T ∷ [])) (omega (arith, r.steps));
+        logs = rw more (logs_then r.logs one);
         state = onward ∙ ap (stepped W) r.state ∙ sym (execution_more W i 1 S);
       }
 
   -- a halted run has come as far as more steps would
-  pub reached_halt : (i n : ℕ) (T : State) (ys : List Retirement) → i ≤ n → Reached W i S T c i xs ys → T.halted ≡ true → Reached W n S T c i xs ys
-  reached_halt i n T ys l r h =
+  pub reached_halt : (i n : ℕ) (T : State) → i ≤ n → Reached W i S T i log now → T.halted ≡ true → Reached W n S T i log now
+  reached_halt i n T l r h =
       let all : n ≡ i + (n - i) = omega arith in
       let stopped : (execution W i S).halted ≡ true = rw (← r.state) h in
       let same : records W n S ≡ records W i S =
@@ -80,7 +72,6 @@ module _ (W : World) (S : State) (c : ℕ) (xs : List Retirement) where
       ∙ append-nil (records W i S) in
       record {
         steps = rw same r.steps;
-        places = rw same r.places;
-        wide = r.wide;
+        logs = rw same r.logs;
         state = r.state ∙ sym (ap (λ m. execution W m S) all ∙ execution_more W i (n - i) S ∙ halted_stays W (n - i) (execution W i S) stopped);
       }

@@ -4,6 +4,7 @@ use Rattle.std.specs.List.{slice_get}
 use Rattle.instruction.specs.declared.instructions.Instruction.{Instruction}
 use Rattle.instruction.specs.declared.instructions.Operand.{Operand}
 use Rattle.instruction.specs.declared.instructions.Operand.TheVariants.{Register, Literal}
+use Rattle.instruction.specs.Named.{register_number}
 use Rattle.instruction.specs.Operands.{operands_at}
 use Rattle.effect.specs.declared.actions.Effect.{Effect}
 use Rattle.effect.specs.declared.actions.Retirement.{Retirement}
@@ -34,11 +35,14 @@ start words = record { place = 0; registers = replicate 16 0; words = words; hal
 
 abbrev pub word_of : List ℕ → Option Operand → ℕ
 word_of registers None = 0
-word_of registers (Some (Register register)) = slice_index registers register.number
+word_of registers (Some (Register register)) = slice_index registers (register_number register)
 word_of registers (Some (Literal word)) = word
 
 abbrev pub sources_of : List ℕ → Option Instruction → Sources
-sources_of registers found = record { first = word_of registers (operands_at found).first; second = word_of registers (operands_at found).second }
+sources_of registers found = record {
+  first = word_of registers (operands_at found).first;
+  second = word_of registers (operands_at found).second;
+}
 
 -- what is found at the place of a state
 abbrev pub found_at : World → State → Option Instruction
@@ -46,7 +50,9 @@ found_at W S = slice_get W.program S.place
 
 -- what the next instruction does
 abbrev pub effect_at : World → State → Effect
-effect_at W S = effect_of W.table S.words W.handler (record { place = S.place; instruction = found_at W S }) (sources_of S.registers (found_at W S))
+effect_at W S =
+    effect_of W.table S.words W.handler (record { place = S.place; instruction = found_at W S })
+    (sources_of S.registers (found_at W S))
 
 -- the state after an effect
 abbrev pub applied : Effect → State → State

@@ -1,6 +1,7 @@
 ghost use Rattle.std.specs.Prelude.{◌≡◌, ℕ, List, slice_index};
+ghost use Rattle.instruction.specs.Named.{register_number};
 ghost use Rattle.stepper.specs.Machine.{step_number, start, word_of, sources_of};
-ghost use Rattle.stepper.specs.View.{view};
+ghost use Rattle.stepper.specs.View.{image_in, place_in, registers_in, halted_in, view};
 
 use crate::state::{StepFault, Stepper};
 use effect::Sources;
@@ -20,7 +21,7 @@ impl StepFault {
 impl<'a> Stepper<'a> {
     /// At place 0, every register 0, not halted.
     pub fn new(image: Image<'a>) -> Stepper<'a>
-        ensures image { result.image ≡ image.entry }
+        ensures image { image_in result ≡ image.entry }
         ensures state { (words : List ℕ) → view result words ≡ start words }
     {
         Stepper {
@@ -33,26 +34,26 @@ impl<'a> Stepper<'a> {
 
     /// The place of the next instruction.
     pub fn place(&self) -> u32
-        ensures { result ≡ self.now.place }
+        ensures { result ≡ place_in self.now }
     {
         self.place
     }
 
     pub fn register(&self, register: Register) -> u32
-        ensures { result ≡ slice_index self.now.registers register.number }
+        ensures { result ≡ slice_index (registers_in self.now) (register_number register) }
     {
         self.registers[register.index()]
     }
 
     pub fn halted(&self) -> bool
-        ensures { result ≡ self.now.halted }
+        ensures { result ≡ halted_in self.now }
     {
         self.halted
     }
 
     /// The word of an operand; 0 where there is none.
     fn word(&self, operand: Option<Operand>) -> u32
-        ensures { result ≡ word_of self.now.registers operand }
+        ensures { result ≡ word_of (registers_in self.now) operand }
     {
         match operand {
             Some(Operand::Register(register)) => self.register(register),
@@ -63,7 +64,7 @@ impl<'a> Stepper<'a> {
 
     /// The words of an instruction's operands.
     pub(crate) fn sources(&self, instruction: Option<Instruction>) -> Sources
-        ensures { result ≡ sources_of self.now.registers instruction }
+        ensures { result ≡ sources_of (registers_in self.now) instruction }
     {
         let Operands { first, second } = Operands::of(instruction);
         Sources {

@@ -1,6 +1,6 @@
 ghost use Rattle.std.specs.Prelude.{◌≡◌};
 ghost use Rattle.stepper.specs.Machine.{applied, stepped, answer_of};
-ghost use Rattle.stepper.specs.View.{view, world_of, Ran};
+ghost use Rattle.stepper.specs.View.{image_in, view, world_of, Ran};
 
 use crate::state::{StepFault, Stepper};
 use bounded_log::Log;
@@ -11,8 +11,9 @@ use unit::Unit;
 impl<'a> Stepper<'a> {
     /// Makes the changes of an effect, and goes on to the next place.
     fn apply<M: Memory>(&mut self, effect: Effect, memory: &mut M)
-        ensures after { view self.new (M.Readable.words memory.new) ≡ applied effect (view self.old (M.Readable.words memory.old)) }
-        ensures image { self.new.image ≡ self.old.image }
+        ensures after { view self.new (M.Readable.words memory.new) ≡
+            applied effect (view self.old (M.Readable.words memory.old)) }
+        ensures image { image_in self.new ≡ image_in self.old }
         ensures kept { M.Memory.kept memory.new ≡ M.Memory.kept memory.old }
     {
         effect.action.apply(&mut self.registers, memory);
@@ -26,9 +27,13 @@ impl<'a> Stepper<'a> {
         unit: &U,
         memory: &mut M,
     ) -> Result<Retirement, StepFault>
-        ensures value { result ≡ answer_of (world_of (U.Unit.table unit.now) self.old.image) (view self.old (M.Readable.words memory.old)) }
-        ensures after { view self.new (M.Readable.words memory.new) ≡ stepped (world_of (U.Unit.table unit.now) self.old.image) (view self.old (M.Readable.words memory.old)) }
-        ensures image { self.new.image ≡ self.old.image }
+        ensures value { result ≡
+            answer_of (world_of (U.Unit.table unit.now) (image_in self.old))
+            (view self.old (M.Readable.words memory.old)) }
+        ensures after { view self.new (M.Readable.words memory.new) ≡
+            stepped (world_of (U.Unit.table unit.now) (image_in self.old))
+            (view self.old (M.Readable.words memory.old)) }
+        ensures image { image_in self.new ≡ image_in self.old }
         ensures kept { M.Memory.kept memory.new ≡ M.Memory.kept memory.old }
     {
         if self.halted {
@@ -57,10 +62,12 @@ impl<'a> Stepper<'a> {
         memory: &mut M,
         log: &mut Log<'_, Retirement>,
     ) -> usize
-        ensures ran { Ran (U.Unit.table unit.now) self.old self.new (M.Readable.words memory.old) (M.Readable.words memory.new) log.old log.new result }
+        ensures ran { Ran (U.Unit.table unit.now) self.old self.new
+            (M.Readable.words memory.old) (M.Readable.words memory.new) log.old log.new result }
         ensures kept { M.Memory.kept memory.new ≡ M.Memory.kept memory.old }
     {
         let room = log.free();
+        // The number of steps is the answer, so the loop counts them.
         for made in 0..room {
             let Ok(record) = self.step(unit, memory) else {
                 return made;

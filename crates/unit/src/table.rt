@@ -1,5 +1,5 @@
 ghost use Rattle.std.specs.Prelude.{◌≡◌};
-ghost use Rattle.unit.specs.Tables.{table_of};
+ghost use Rattle.unit.specs.Tables.{table_of, readable_in};
 
 use crate::outcome::{Fault, Outcome};
 use crate::traits::Unit;
@@ -13,7 +13,7 @@ pub struct WordTable<R> {
 
 impl<R: Readable> WordTable<R> {
     pub fn new(words: R) -> WordTable<R>
-        ensures { result.words ≡ words }
+        ensures { readable_in result ≡ words }
     {
         WordTable { words }
     }
@@ -24,7 +24,7 @@ impl<R: Readable> Unit for WordTable<R> {
 
     ghost KNOWN = { 1 };
 
-    ghost table = { λ s operation a _. table_of (R.Readable.words s.words) operation a };
+    ghost table = { λ s operation a _. table_of (R.Readable.words (readable_in s)) operation a };
 
     fn ask(&self, operation: u8, a: u32, _b: u32) -> Outcome {
         if operation != 0 {

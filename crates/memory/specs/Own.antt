@@ -1,0 +1,6 @@
+-- A memory that owns its words.
+use Rattle.std.specs.Prelude.{ℕ, List}
+use Rattle.memory.specs.declared.own.OwnWords.{OwnWords}
+
+abbrev pub own_in : OwnWords → List ℕ
+own_in own = own.cells
