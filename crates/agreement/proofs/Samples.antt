@@ -1,4 +1,5 @@
--- Runs on numbers, by computation: instructions do retire, wrong guesses and traps are mended, a halt ends it.
+-- Runs on numbers, by computation: instructions do retire, wrong guesses and traps are mended, a
+-- halt ends it.
 use Rattle.std.proofs.Common.{◌≡◌, ℕ, zero, suc, ◌+◌, ◌%◌, ◌^◌, ◌<◌, true, false, List, [], ◌∷◌, ◌++◌, length, get_or, replicate, sym, refl, ◌∙◌, arith, lit≤, Ok}
 use Rattle.instruction.specs.Named.{register, unit_op}
 use Rattle.instruction.specs.declared.instructions.Instruction.{Instruction}
@@ -52,7 +53,8 @@ pass r = one Read r ++ sink ++ away
 abbrev settle : List Move
 settle = one Execute 1 ++ one Insert 1 ++ sink ++ away
 
--- one instruction after another, whatever it reads of the registers 0 to 2; what does not fit is turned away
+-- one instruction after another, whatever it reads of the registers 0 to 2; what does not fit is
+-- turned away
 abbrev singly : ℕ → List Move
 singly zero = []
 singly (suc n) = enter ++ climb ++ pass 0 ++ pass 1 ++ pass 2 ++ settle ++ leave ++ singly n
@@ -91,7 +93,8 @@ whole_loaded = refl
 whole_halted : whole.pipes.halted ≡ true
 whole_halted = refl
 
--- a wrong guess: what was fetched behind it has already executed, is killed, and leaves without a record
+-- a wrong guess: what was fetched behind it has already executed, is killed, and leaves without a
+-- record
 abbrev guessing : World
 guessing = adding (Set (register 1) 1 ∷ BranchZero true (register 1) 3 ∷ Set (register 2) 4 ∷ Set (register 2) 9 ∷ []) 0
 

@@ -19,7 +19,8 @@ Alike table other = (operation a b : ℕ) → operation < 16 → a < 2 ^ 32 → 
 abbrev pub world : Table → List Instruction → ℕ → World
 world table program handler = record { table = table; program = program; handler = handler }
 
--- what pipes, words and records are after as many steps of the sequential machine as there are records
+-- what pipes, words and records are after as many steps of the sequential machine as there are
+-- records
 pub record Sequential (W : World) (first : List ℕ) (P : Pipes) (words : List ℕ) (rs : List Retirement) : Type 0 where
   pub registers_are : P.registers ≡ (execution W (length rs) (start first)).registers
   pub words_are : words ≡ (execution W (length rs) (start first)).words
@@ -32,9 +33,9 @@ pub record Equal (P P' : Pipes) (words words' : List ℕ) (rs rs' : List Retirem
   pub same_mark : P.halted ≡ P'.halted
   pub same_records : rs ≡ rs'
 
--- One image, two tables that are alike, two layouts, the same words at the start: whatever calls were
--- made of the one pipeline and of the other, where they have given equally many records nothing tells
--- them apart.
+-- One image, two tables that are alike, two layouts, the same words at the start: whatever calls
+-- were made of the one pipeline and of the other, where they have given equally many records nothing
+-- tells them apart.
 abbrev pub Agreement : Type 0
 Agreement =
     (table other : Table) (program : List Instruction) (handler : ℕ) → Alike table other →

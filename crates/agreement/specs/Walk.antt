@@ -1,4 +1,5 @@
--- The walk from the top stage to the bottom: the state that the next live packet below must execute in.
+-- The walk from the top stage to the bottom: the state that the next live packet below must execute
+-- in.
 use Rattle.std.specs.Prelude.{◌≡◌, ℕ, ◌≤◌, Bool, true, false, cond, not, ◌&&◌, List, [], ◌∷◌, length, Some, None, Option, slice_index}
 use Rattle.instruction.specs.Named.{register_number}
 use Rattle.effect.specs.declared.actions.Action.{Action}

@@ -1,11 +1,12 @@
 -- A log after records, and after more of them.
 use Rattle.std.proofs.Common.{◌≡◌, ℕ, ◌+◌, ◌<◌, ◌≤◌, List, [], ◌∷◌, ◌++◌, length, take, drop, set, sym, ap, ◌∙◌, subst, append_assoc, arith, length-append, length-drop, length-take}
 use Rattle.std.proofs.lemmas.List.{append-nil, drop-drop}
+use Rattle.std.proofs.lemmas.Bool.{lt-ltb}
 use lib.Seq.{take-append_seam, drop-append_seam}
 use Rattle.bounded_log.specs.declared.places.Log.{Log}
-use Rattle.bounded_log.specs.Entries.{logged, since, added_to, count_after}
-use Rattle.bounded_log.specs.Room.{places_in, count_in, root_in, room, Logs}
-use Rattle.bounded_log.proofs.Logging.{logged_none, logged_more, since_logged, added_places, added_count}
+use Rattle.bounded_log.specs.Entries.{logged, since}
+use Rattle.bounded_log.specs.Room.{places_in, count_in, root_in, room, added_if, Logs}
+use Rattle.bounded_log.proofs.Logging.{logged_none, logged_more, since_logged}
 
 module _ {T : Type 0} (xs : List T) (c : ℕ) (rs ss : List T) (within : c ≤ length xs) where
   parts : logged xs c rs ≡ (take c xs ++ rs) ++ drop (length rs) (drop c xs)
@@ -49,23 +50,26 @@ module _ {T : Type 0} {old new : Log T} where
     root = ap (λ (l : Log T). l.places.ghost_name) same;
   }
 
-  -- one record in a free place
-  pub logs_one : (x : T) → 0 < room old → places_in new ≡ added_to (places_in old) (count_in old) x → count_in new ≡ count_after (places_in old) (count_in old) → root_in new ≡ root_in old → Logs old new (x ∷ [])
-  logs_one x free places count root =
+  -- a record in the first free place
+  pub logs_set : (x : T) → count_in old < length (places_in old) → places_in new ≡ set (places_in old) (count_in old) x → count_in new ≡ count_in old + 1 → root_in new ≡ root_in old → Logs old new (added_if old x)
+  logs_set x free places count root =
       let c = old.count in
       let xs = old.places.now in
-      let inside : old.count < length old.places.now = omega (arith, free) in
       let here : c + 0 ≡ c = omega arith in
-      record {
+      let one : Logs old new (x ∷ []) = record {
         places =
             places
-            ∙ added_places xs c x inside
             ∙ ap (λ (zs : List T). set zs c x) (sym (logged_none xs c))
             ∙ ap (λ (k : ℕ). set (logged xs c []) k x) (sym here)
-            ∙ logged_more xs c [] x (omega (arith, inside));
-        count = count ∙ added_count xs c x inside;
+            ∙ logged_more xs c [] x (omega (arith, free));
+        count = count;
         root = root;
-      }
+      } in
+      rw (lt-ltb c (length xs) free) one
+
+  -- what adding leaves where a place is free
+  pub logs_one : (x : T) → 0 < room old → Logs old new (added_if old x) → Logs old new (x ∷ [])
+  logs_one x free logs = rw (lt-ltb old.count (length old.places.now) (omega (arith, free))) at logs
 
   module _ {rs : List T} (l : Logs old new rs) where
     -- the records are what was logged between

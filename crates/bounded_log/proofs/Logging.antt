@@ -1,9 +1,8 @@
 -- Records written one after another from a count on.
 use Rattle.std.proofs.Common.{◌≡◌, ℕ, ◌+◌, ◌-◌, ◌<◌, ◌≤◌, List, [], ◌∷◌, ◌++◌, length, take, drop, set, sym, refl, ap, ◌∙◌, append_assoc, arith, length-append, length-drop, take-append-drop, length-take}
 use Rattle.std.proofs.lemmas.List.{set-append_right, drop_more}
-use Rattle.std.proofs.lemmas.Bool.{lt-ltb}
 use lib.Seq.{take-append-add, take-append_seam, drop-append_seam}
-use Rattle.bounded_log.specs.Entries.{logged, since, added_to, count_after}
+use Rattle.bounded_log.specs.Entries.{logged, since}
 
 pub logged_none : {T : Type 0} (xs : List T) (c : ℕ) → logged xs c [] ≡ xs
 logged_none xs c = take-append-drop c xs
@@ -43,11 +42,3 @@ since_logged {T} xs c rs l =
     ∙ ap (λ (zs : List T). drop c (take c xs ++ zs)) (take-append_seam rs rest)
     ∙ ap (λ (n : ℕ). drop n (take c xs ++ rs)) (sym front)
     ∙ drop-append_seam (take c xs) rs
-
--- what adding to a log with a free place leaves
-module _ {T : Type 0} (places : List T) (count : ℕ) (x : T) (free : count < length places) where
-  pub added_places : added_to places count x ≡ set places count x
-  added_places = rw (lt-ltb count (length places) free)
-
-  pub added_count : count_after places count ≡ count + 1
-  added_count = rw (lt-ltb count (length places) free)

@@ -1,5 +1,5 @@
 -- The log as the list of its entries, in the places that it was lent.
-use Rattle.std.specs.Prelude.{ℕ, ◌+◌, if◌then◌else◌, List, [], ◌∷◌, ◌++◌, length, take, drop, Ok, Err, Result, nat_lt, slice_set}
+use Rattle.std.specs.Prelude.{ℕ, if◌then◌else◌, List, [], ◌∷◌, ◌++◌, length, take, drop, Ok, Err, Result, nat_lt}
 use Rattle.std.specs.Option.{ok_or}
 use Rattle.std.specs.List.{slice_get}
 use Rattle.bounded_log.specs.declared.faults.LogFault.{LogFault}
@@ -14,15 +14,9 @@ module _ {T : Type 0} (places : List T) (count : ℕ) where
   abbrev pub entries : List T
   entries = take count places
 
-  -- what adding answers, and what it leaves: it sets the place at the count, and no other
+  -- what adding answers
   abbrev pub add_of : Result (Unit {0}) LogFault
   add_of = if nat_lt count (length places) then Ok tt else Err Full
-
-  abbrev pub added_to : T → List T
-  added_to x = if nat_lt count (length places) then slice_set places count x else places
-
-  abbrev pub count_after : ℕ
-  count_after = if nat_lt count (length places) then count + 1 else count
 
   -- the entries after adding: one more at the end, or, where the log is full, the same
   abbrev pub grown : T → List T

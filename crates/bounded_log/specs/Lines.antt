@@ -10,7 +10,8 @@ line_of [] = []
 line_of (n ∷ []) = decimal n
 line_of (n ∷ (m ∷ ns)) = decimal n ++ (32 ∷ line_of (m ∷ ns))
 
--- records a line each, behind their numbers, which go up by one: the number, a blank, the record's line
+-- records a line each, behind their numbers, which go up by one: the number, a blank, the
+-- record's line
 abbrev pub numbered : {T : Type 0} → (T → List ℕ) → ℕ → List T → List ℕ
 numbered numbers n [] = []
 numbered numbers n (x ∷ xs) = decimal n ++ (32 ∷ (line_of (numbers x) ++ (10 ∷ numbered numbers (n + 1) xs)))

@@ -1,5 +1,5 @@
 -- A log's entries, its room for more, and what records leave of it.
-use Rattle.std.specs.Prelude.{◌≡◌, ℕ, ◌+◌, ◌-◌, List, length}
+use Rattle.std.specs.Prelude.{◌≡◌, ℕ, ◌+◌, ◌-◌, if◌then◌else◌, List, [], ◌∷◌, length, nat_lt}
 use Rattle.std.specs.Borrow.{MutBor}
 use Rattle.bounded_log.specs.declared.places.Log.{Log}
 use Rattle.bounded_log.specs.Entries.{entries, logged}
@@ -28,8 +28,12 @@ module _ {T : Type 0} (log : Log T) where
   abbrev pub room : ℕ
   room = length places_in - count_in
 
--- the log after these records: they stand behind the old entries, and every other place and the loan
--- are as they were
+  -- the records that adding logs: this one where a place is free, else none
+  abbrev pub added_if : T → List T
+  added_if x = if nat_lt count_in (length places_in) then x ∷ [] else []
+
+-- the log after these records: they stand behind the old entries, and every other place and the
+-- loan are as they were
 pub record Logs {T : Type 0} (old new : Log T) (records : List T) : Type 0 where
   pub places : places_in new ≡ logged (places_in old) (count_in old) records
   pub count : count_in new ≡ count_in old + length records

@@ -5,9 +5,8 @@ ghost use Rattle.bounded_log.specs.Room.{count_in, entries_in, room};
 use crate::faults::LogFault;
 use crate::places::Log;
 
-// The log holds a lent slice, so its questions take `&mut self`, and promise that nothing changed.
 impl<'a, T: Copy> Log<'a, T> {
-    // The entries, as a slice.
+    /// The entries, as a slice.
     pub(crate) fn records(&self) -> &[T]
         ensures { result.now ≡ entries_in self.now }
     {
@@ -15,26 +14,23 @@ impl<'a, T: Copy> Log<'a, T> {
     }
 
     /// The entry of this number, from 0; refused where there is none.
-    pub fn entry(&mut self, index: usize) -> Result<T, LogFault>
-        ensures value { result ≡ entry_of (entries_in self.old) index }
-        ensures same { self.new ≡ self.old }
+    pub fn entry(&self, index: usize) -> Result<T, LogFault>
+        ensures { result ≡ entry_of (entries_in self.now) index }
     {
         self.records().get(index).copied().ok_or(LogFault::Missing)
     }
 
     /// How many entries there are.
-    pub fn count(&mut self) -> usize
-        ensures value { result ≡ count_in self.old }
-        ensures entries { result ≡ length (entries_in self.old) }
-        ensures same { self.new ≡ self.old }
+    pub fn count(&self) -> usize
+        ensures value { result ≡ count_in self.now }
+        ensures entries { result ≡ length (entries_in self.now) }
     {
         self.count
     }
 
     /// How many places are free.
-    pub fn free(&mut self) -> usize
-        ensures value { result ≡ room self.old }
-        ensures same { self.new ≡ self.old }
+    pub fn free(&self) -> usize
+        ensures { result ≡ room self.now }
     {
         self.places.len() - self.count
     }

@@ -1,6 +1,6 @@
 ghost use Rattle.std.specs.Prelude.{◌≡◌, []};
-ghost use Rattle.bounded_log.specs.Entries.{added_to, count_after, add_of, grown};
-ghost use Rattle.bounded_log.specs.Room.{loan_in, places_in, count_in, root_in, entries_in};
+ghost use Rattle.bounded_log.specs.Entries.{add_of, grown};
+ghost use Rattle.bounded_log.specs.Room.{loan_in, places_in, count_in, root_in, entries_in, added_if, Logs};
 
 use crate::faults::LogFault;
 use crate::places::Log;
@@ -18,12 +18,9 @@ impl<'a, T: Copy> Log<'a, T> {
     /// Adds an entry at the first free place; refused where there is none.
     pub fn add(&mut self, added: T) -> Result<(), LogFault>
         ensures value { result ≡ add_of (places_in self.old) (count_in self.old) }
-        ensures places { places_in self.new ≡
-            added_to (places_in self.old) (count_in self.old) added }
-        ensures count { count_in self.new ≡ count_after (places_in self.old) (count_in self.old) }
+        ensures logs { Logs self.old self.new (added_if self.old added) }
         ensures entries { entries_in self.new ≡
             grown (places_in self.old) (count_in self.old) added }
-        ensures root { root_in self.new ≡ root_in self.old }
     {
         // A slice's `get_mut` says nothing of the other places, so this goes by the index.
         if self.count < self.places.len() {

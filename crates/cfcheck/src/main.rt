@@ -6,7 +6,8 @@ use fields::Refusal;
 use std::io::Read;
 use unit::WholeNumber;
 
-// How much this program takes. Each program reads and prints its own; what they share is in the libraries.
+// How much this program takes. The three programs are alike, but each has its own call and its own
+// first line, and no program can call into another.
 const MOST_BYTES: u64 = 65536;
 
 fn run(rt: &HostRuntime) -> anyhow::Result<()> {

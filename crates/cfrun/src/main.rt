@@ -4,32 +4,18 @@
 use bounded_log::Log;
 use effect::{Action, Retirement};
 use fields::Refusal;
-use running::{JobRun, run_job};
+use running::run_job;
 use std::alloc::Global;
 use std::io::Read;
 use unit::WholeNumber;
 
-// How much this program takes. Each program reads and prints its own; what they share is in the libraries.
+// How much this program takes. The three programs are alike, but each has its own call and its own
+// first line, and no program can call into another.
 const MOST_BYTES: u64 = 65536;
 
 const LOG_PLACES: usize = 2000;
 
 const WORDS: usize = 256;
-
-/// How large the job is, each record of the log with its number, and how the run went.
-fn print_run(
-    rt: &impl Print,
-    heap: Global,
-    answer: JobRun,
-    log: &mut Log<'_, Retirement>,
-) -> anyhow::Result<()> {
-    println!(rt; "CFP {}", answer.job)?;
-    let mut records = String::new(heap);
-    log.write_numbered(heap, &mut records)?;
-    print!(rt; "{records}")?;
-    println!(rt; "END {answer}")?;
-    Ok(())
-}
 
 fn run(rt: &HostRuntime) -> anyhow::Result<()> {
     let heap = rt.alloc();
@@ -42,7 +28,7 @@ fn run(rt: &HostRuntime) -> anyhow::Result<()> {
     }; LOG_PLACES]?;
     let mut log = Log::new(&mut places);
     match run_job(&bytes, &WholeNumber, &mut words, &mut log) {
-        Ok(answer) => print_run(rt, heap, answer, &mut log)?,
+        Ok(answer) => println!(rt; "CFP {}\n{log}END {answer}", answer.job)?,
         Err(fault) => println!(rt; "{}", Refusal::from(fault))?,
     }
     Ok(())

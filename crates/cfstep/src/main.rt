@@ -3,33 +3,19 @@
 
 use bounded_log::Log;
 use effect::{Action, Retirement};
-use execution::{Execution, execute};
+use execution::execute;
 use fields::Refusal;
 use std::alloc::Global;
 use std::io::Read;
 use unit::WholeNumber;
 
-// How much this program takes. Each program reads and prints its own; what they share is in the libraries.
+// How much this program takes. The three programs are alike, but each has its own call and its own
+// first line, and no program can call into another.
 const MOST_BYTES: u64 = 65536;
 
 const MOST_STEPS: usize = 2000;
 
 const WORDS: usize = 256;
-
-/// How large the image is, each step of the log with its number, and how the execution went.
-fn print_execution(
-    rt: &impl Print,
-    heap: Global,
-    answer: Execution,
-    log: &mut Log<'_, Retirement>,
-) -> anyhow::Result<()> {
-    println!(rt; "CFP {}", answer.records)?;
-    let mut lines = String::new(heap);
-    log.write_numbered(heap, &mut lines)?;
-    print!(rt; "{lines}")?;
-    println!(rt; "END {answer}")?;
-    Ok(())
-}
 
 fn run(rt: &HostRuntime) -> anyhow::Result<()> {
     let heap = rt.alloc();
@@ -42,7 +28,7 @@ fn run(rt: &HostRuntime) -> anyhow::Result<()> {
     }; MOST_STEPS]?;
     let mut log = Log::new(&mut places);
     match execute(&bytes, &WholeNumber, &mut words, &mut log) {
-        Ok(answer) => print_execution(rt, heap, answer, &mut log)?,
+        Ok(answer) => println!(rt; "CFP {}\n{log}END {answer}", answer.records)?,
         Err(fault) => println!(rt; "{}", Refusal::from(fault))?,
     }
     Ok(())

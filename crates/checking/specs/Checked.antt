@@ -1,8 +1,6 @@
 -- What checking a job answers.
-use Rattle.std.specs.Prelude.{◌≡◌, ℕ, List, length, Ok, Err, Result}
+use Rattle.std.specs.Prelude.{◌≡◌, ℕ, length, Ok, Err, Result}
 use Rattle.fields.specs.declared.refusal.Refusal.{Refusal}
-use Rattle.instruction.specs.declared.instructions.Instruction.{Instruction}
-use Rattle.moves.specs.declared.kinds.Move.{Move}
 use Rattle.job.specs.declared.faults.JobFault.{JobFault}
 use Rattle.job.specs.Faults.{job_refusal}
 use Rattle.job.specs.Meaning.{told}
@@ -31,10 +29,6 @@ Checked known (Err fault) (Ok figures) = ⊥
 Checked known (Err fault) (Err refused) = refused ≡ Job fault
 Checked known (Ok job) (Ok figures) = (figures ≡ figures_of job) × All (placed job.sets) job.program × All (heard known) job.program
 Checked known (Ok job) (Err refused) = Misfit known job refused
-
--- the figures of a job's three parts
-abbrev pub sizes : List Instruction → List ℕ → List Move → JobFigures
-sizes program sets moves = record { records = length program; stages = length sets; moves = length moves }
 
 -- every instruction has a stage, and the unit knows every operation
 abbrev pub Fitting : ℕ → Contents → Type 0

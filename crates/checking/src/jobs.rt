@@ -5,7 +5,7 @@ use crate::answers::{CheckFault, JobFigures};
 use crate::fitting::fit_job;
 use unit::Unit;
 
-/// Reads a job and fits its image to its layout, for a unit.
+/// Reads and fits a job, and answers how large it is.
 pub fn check_job<U: Unit>(bytes: &[u8]) -> Result<JobFigures, CheckFault>
     ensures { Checked U.Unit.KNOWN (job_of bytes.now) result }
 {

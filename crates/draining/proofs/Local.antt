@@ -1,4 +1,5 @@
--- What a move does to the one or two stages that it touches: waiting packets still fit, and hope is kept.
+-- What a move does to the one or two stages that it touches: waiting packets still fit, and hope is
+-- kept.
 use Rattle.std.proofs.Common.{◌≡◌, ℕ, zero, suc, Bool, true, false, cond, not, ◌||◌, ltb, List, [], ◌∷◌, length, get_or, set, is_some, Some, None, Option, refl, ⊎_elim, arith}
 use Rattle.std.specs.List.{slice_get}
 use Rattle.std.proofs.lemmas.Option.{slice_get-get_or, slice_get_past}

@@ -46,11 +46,6 @@ taken W sets P words m r e =
     ap (λ (o : Option MoveRefusal). moved_by o P words (accepted_by W sets P words (kind_of (number_of m.kind)) m.place)) (not_refused sets P m.kind m.place r e)
     ∙ ap (λ (k : Option MoveKind). went (accepted_by W sets P words k m.place)) (kind_number m.kind)
 
-pub chosen_accepted : (W : World) (sets : List ℕ) (P : Pipes) (words : List ℕ) → 2 ≤ length sets → length sets ≤ 16 → Sound sets P → P.halted ≡ false →
-    refusal_of sets P (number_of (chosen sets P).kind) (chosen sets P).place ≡ None
-chosen_accepted W sets P words low high sound runs =
-    not_refused sets P (chosen sets P).kind (chosen sets P).place runs (chosen_good W sets P words low high sound runs).asks_well
-
 pub reached_none : (W : World) (sets : List ℕ) (P : Pipes) (words : List ℕ) → Sound sets P → P.halted ≡ false → Reached W sets P words [] P words
 reached_none W sets P words sound runs = record {
   none_turned_away = refl;

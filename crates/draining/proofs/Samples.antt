@@ -1,4 +1,5 @@
--- Two stages driven by the policy, computed: an assignment, a halt, a place past the end, a wrong guess.
+-- Two stages driven by the policy, computed: an assignment, a halt, a place past the end, a wrong
+-- guess.
 use Rattle.std.proofs.Common.{◌≡◌, ℕ, zero, suc, false, List, [], ◌∷◌, refl}
 use Rattle.unit.specs.Faults.{faulty}
 use Rattle.instruction.specs.declared.instructions.Instruction.{Instruction}

@@ -49,8 +49,8 @@ hope (x ∷ xs) = hopeful x || hope xs
 abbrev pub is_vacant : Stage → Bool
 is_vacant x = not (is_some x.packet) && free x.result
 
--- the stages past the top are vacant; every waiting packet can be executed; and where fetch is closed,
--- something in flight halts the pipeline or opens fetch
+-- the stages past the top are vacant; every waiting packet can be executed; and where fetch is
+-- closed, something in flight halts the pipeline or opens fetch
 abbrev pub Sound : List ℕ → Pipes → Type 0
 Sound sets P =
     (length P.stages ≡ 16) ×

@@ -31,6 +31,7 @@ fn fetch() -> Move
 }
 
 /// What the highest packet wants; without a packet, a fetch.
+#[tactic(auto, using(crate::proofs::Scans::highest_some))]
 fn upward(pipes: &Pipes, layout: &Layout<'_>) -> Move
     ensures { result ≡ upward (sets_in layout.now) pipes.now
         (highest pipes.now.stages (length (sets_in layout.now))) }
@@ -38,9 +39,8 @@ fn upward(pipes: &Pipes, layout: &Layout<'_>) -> Move
     let Some(stage) = highest(pipes, layout) else {
         return fetch();
     };
-    let here = &pipes.stages[stage];
-    let Some(packet) = &here.packet else {
-        return fetch();
+    let Some(packet) = &pipes.stages[stage].packet else {
+        unreachable!()
     };
     wants(packet, layout, stage as u8)
 }

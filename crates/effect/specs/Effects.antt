@@ -13,6 +13,8 @@ use Rattle.effect.specs.declared.actions.Action.TheVariants.{Nothing, SetRegiste
 use Rattle.effect.specs.declared.actions.Effect.{Effect}
 use Rattle.effect.specs.declared.actions.Fetched.{Fetched}
 use Rattle.effect.specs.declared.actions.Sources.{Sources}
+use Rattle.effect.specs.declared.causes.Cause.{Cause}
+use Rattle.effect.specs.declared.causes.Cause.TheVariants.{Outside, PastTheEnd, Unit}
 
 -- a unit's table: an outcome for an operation and two words
 abbrev pub Table : Type 0
@@ -28,26 +30,30 @@ address_of base offset = (base + offset) % 2 ^ 32
 abbrev pub does : Action → ℕ → Effect
 does action next = record { action = action; next = next }
 
--- a trap's word tells its cause and its place
-abbrev pub trapped : ℕ → ℕ → ℕ → Effect
-trapped cause place handler = does (Trap (65536 * cause + place % 65536)) handler
+-- an address outside the memory, a place at or past the count, and a fault of the unit
+abbrev pub cause_number : Cause → ℕ
+cause_number Outside = 2
+cause_number PastTheEnd = 3
+cause_number (Unit fault) = 16 + fault.number
 
--- cause 2: an address outside the memory
+-- a trap's word tells its cause and its place
+abbrev pub trapped : Cause → ℕ → ℕ → Effect
+trapped cause place handler = does (Trap (65536 * cause_number cause + place % 65536)) handler
+
 abbrev loaded_by : Result ℕ AccessFault → ℕ → ℕ → Register → Effect
 loaded_by (Ok word) handler place destination = does (SetRegister destination word) (following place)
-loaded_by (Err fault) handler place destination = trapped 2 place handler
+loaded_by (Err fault) handler place destination = trapped Outside place handler
 
 abbrev pub loaded : List ℕ → ℕ → ℕ → Register → ℕ → Effect
 loaded words handler place destination address = loaded_by (read_of words address) handler place destination
 
 abbrev pub stored : List ℕ → ℕ → ℕ → ℕ → ℕ → Effect
 stored words handler place address word =
-    if nat_lt address (length words) then does (StoreWord address word) (following place) else trapped 2 place handler
+    if nat_lt address (length words) then does (StoreWord address word) (following place) else trapped Outside place handler
 
--- cause 16 + f: the unit's fault f
 abbrev pub computed : ℕ → ℕ → Register → Result ℕ Fault → Effect
 computed handler place destination (Ok word) = does (SetRegister destination word) (following place)
-computed handler place destination (Err fault) = trapped (16 + fault.number) place handler
+computed handler place destination (Err fault) = trapped (Unit fault) place handler
 
 -- The table is asked at words only: an effect means the same for tables that are equal there.
 abbrev pub asked : Table → UnitOp → Sources → Result ℕ Fault
@@ -55,9 +61,8 @@ asked table operation sources =
     table (unit_op_number operation) (sources.first % 2 ^ 32) (sources.second % 2 ^ 32)
 
 module _ (table : Table) (words : List ℕ) (handler place : ℕ) (sources : Sources) where
-  -- cause 3: a place at or past the count
   abbrev pub effect_by : Option Instruction → Effect
-  effect_by None = trapped 3 place handler
+  effect_by None = trapped PastTheEnd place handler
   effect_by (Some instruction.Halt) = does Halt (following place)
   effect_by (Some (instruction.Jump target)) = does Nothing target
   effect_by (Some (instruction.Set destination word)) = does (SetRegister destination word) (following place)

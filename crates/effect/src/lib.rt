@@ -4,6 +4,7 @@
 pub use actions::{Action, Effect, Fetched, Retirement, Sources};
 
 mod actions;
+mod causes;
 mod changes;
 mod retirements;
 mod working;

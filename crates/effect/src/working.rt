@@ -1,22 +1,20 @@
-ghost use Rattle.std.specs.Prelude.{◌≡◌, ◌<◌};
-ghost use Rattle.unit.specs.Faults.{FaultInRange};
+ghost use Rattle.std.specs.Prelude.{◌≡◌};
 ghost use Rattle.effect.specs.declared.actions.Action.TheVariants.{Nothing};
 ghost use Rattle.effect.specs.Effects.{following, address_of, does, trapped, loaded, stored, computed, effect_of};
 
 use crate::actions::{Action, Effect, Fetched, Sources};
+use crate::causes::Cause;
 use instruction::{Instruction, Register};
 use memory::Readable;
 use unit::{Outcome, Unit};
 
 /// A trap: the cause and the place as one word for r15, and on to the handler.
-// A cause is the number that the word tells; a unit's fault is 16 more than its own number.
-fn trap(cause: u32, place: u32, handler: u32) -> Effect
-    requires { cause < 32 }
+fn trap(cause: Cause, place: u32, handler: u32) -> Effect
     ensures { result ≡ trapped cause place handler }
 {
     Effect {
         action: Action::Trap {
-            word: 65536 * cause + place % 65536,
+            word: 65536 * cause.number() + place % 65536,
         },
         next: handler,
     }
@@ -57,7 +55,7 @@ impl Fetched {
     {
         match memory.read(address) {
             Ok(word) => self.go_on(Action::SetRegister { register, word }),
-            Err(_) => trap(2, self.place, handler),
+            Err(_) => trap(Cause::Outside, self.place, handler),
         }
     }
 
@@ -67,17 +65,16 @@ impl Fetched {
         if address < memory.size() {
             self.go_on(Action::StoreWord { address, word })
         } else {
-            trap(2, self.place, handler)
+            trap(Cause::Outside, self.place, handler)
         }
     }
 
     fn compute(self, handler: u32, register: Register, outcome: Outcome) -> Effect
-        requires { FaultInRange outcome }
         ensures { result ≡ computed handler self.place register outcome }
     {
         match outcome {
             Ok(word) => self.go_on(Action::SetRegister { register, word }),
-            Err(fault) => trap(16 + u32::from(fault.number), self.place, handler),
+            Err(fault) => trap(Cause::Unit(fault), self.place, handler),
         }
     }
 
@@ -93,7 +90,7 @@ impl Fetched {
             effect_of (U.Unit.table unit.now) (R.Readable.words memory.now) handler self sources }
     {
         let Some(instruction) = self.instruction else {
-            return trap(3, self.place, handler);
+            return trap(Cause::PastTheEnd, self.place, handler);
         };
         let Sources { first, second } = sources;
         match instruction {

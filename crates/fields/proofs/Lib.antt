@@ -1,4 +1,4 @@
-pub mod Scans
-pub mod Splits
+pub mod Cuts
 pub mod Lefts
 pub mod Bits
+pub mod Readings

@@ -1,5 +1,8 @@
 ghost use Rattle.std.specs.Prelude.{◌≡◌, ◌+◌, ◌≤◌, length, OnOk};
 ghost use Rattle.fields.specs.Files.{headed};
+ghost use Rattle.fields.specs.Refusals.{head_refusal};
+
+use crate::refusal::Refusal;
 
 /// Why bytes do not begin as a file of their kind: its head is not whole, or has another mark or
 /// version.
@@ -8,6 +11,20 @@ pub enum HeadFault {
     Short { handed: usize },
     Mark,
     Version,
+}
+
+impl HeadFault {
+    /// The refusal, where the three questions have these numbers.
+    pub fn refusal(self, short: u8, mark: u8, version: u8) -> Refusal
+        ensures { result ≡ head_refusal short mark version self }
+    {
+        let (number, place) = match self {
+            HeadFault::Short { handed } => (short, handed),
+            HeadFault::Mark => (mark, 0),
+            HeadFault::Version => (version, 3),
+        };
+        Refusal { number, place }
+    }
 }
 
 /// Do the bytes begin with this mark and version 1, and are there so many more for the head's

@@ -1,6 +1,6 @@
 #![tactic(auto, using(crate::proofs::Lefts::none_left, crate::proofs::Lefts::one_left, std::proofs::lemmas::Option::slice_get_within))]
 
-ghost use Rattle.std.specs.Prelude.{◌≡◌, ℕ, ◌<◌, List, length, Option};
+ghost use Rattle.std.specs.Prelude.{◌≡◌, ◌<◌, List, length, Option};
 ghost use Rattle.std.specs.Iterator.{YieldsFirst, item_count};
 ghost use Rattle.std.specs.List.{slice_get};
 ghost use Rattle.fields.specs.Rows.{left_of};

@@ -11,8 +11,7 @@ use layout::Layout;
 pub(crate) fn placed(layout: &Layout<'_>, instruction: Instruction) -> bool
     ensures { result ≡ placed (sets_in layout.now) instruction }
 {
-    let operation = instruction.operation();
-    operation < 2 || layout.last_able(operation).is_some()
+    !instruction.needs_stage() || layout.last_able(instruction.operation()).is_some()
 }
 
 /// Does the instruction ask the unit for nothing, or for an operation of its known set?

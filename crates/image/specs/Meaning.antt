@@ -8,14 +8,14 @@ use Rattle.image.specs.Reading.{Contents, program_of}
 
 -- the instructions, place 0 first
 abbrev pub program : Image → List Instruction
-program p = program_of p.head.count p.records.now
+program p = program_of p.records.now
 
 abbrev pub version_in : Image → ℕ
-version_in p = p.head.version
+version_in p = p.version
 
 -- the place at which a trap goes on
 abbrev pub handler_in : Image → ℕ
-handler_in p = p.head.handler
+handler_in p = p.handler
 
 -- an image and what follows it, as reading tells them
 abbrev pub told : Image → List ℕ → Contents

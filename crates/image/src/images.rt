@@ -8,12 +8,11 @@ pub struct Head {
     pub handler: u16,
 }
 
-/// An image that was read: its numbers and the bytes of its records, each of which is an instruction.
-// The count stands beside the bytes as the file's head has it: a quotient of their length says it less plainly.
-// Nor is it the length of a slice of arrays: the library lends bytes as arrays only by unsafe calls.
+/// An image that was read: two of its numbers, and its records, each of which is an instruction.
 #[derive(Clone, Copy)]
 pub struct Image<'a> {
-    pub(crate) head: Head,
-    pub(crate) records: &'a [u8],
-    ghost read: { WasRead head records.now },
+    pub(crate) version: u16,
+    pub(crate) handler: u16,
+    pub(crate) records: &'a [[u8; 8]],
+    ghost read: { WasRead handler records.now },
 }

@@ -1,6 +1,6 @@
 ghost use Rattle.std.specs.Prelude.{◌≡◌, ◌≤◌, length};
 ghost use Rattle.std.proofs.Common.{arith};
-ghost use Rattle.fields.proofs.Scans.{length-entries};
+ghost use Rattle.std.proofs.lemmas.List.{length-map};
 ghost use Rattle.image.specs.Meaning.{program, left};
 ghost use Rattle.image.specs.Reading.{instruction_in};
 
@@ -13,11 +13,7 @@ impl<'a> Row for Image<'a> {
 
     ghost elements = { program };
 
-    ghost few = { λ i. Prim.omega (
-      arith,
-      length-entries instruction_in 8 i.head.count i.records.now,
-      i.read.0,
-    ) };
+    ghost few = { λ i. Prim.omega (arith, length-map i.records.now instruction_in, i.read.0) };
 
     fn element(&self, index: u16) -> Option<Instruction> {
         self.fetch(u32::from(index))

@@ -10,7 +10,7 @@ impl<'a> Image<'a> {
     pub fn version(&self) -> u16
         ensures { result ≡ version_in self.now }
     {
-        self.head.version
+        self.version
     }
 
     /// How many records it has: 1 to 4,096.
@@ -19,7 +19,7 @@ impl<'a> Image<'a> {
         ensures value { result ≡ length (program self.now) }
         ensures bound { result ≤ 4096 }
     {
-        self.head.count
+        self.records.len() as u16
     }
 
     /// The place at which a trap goes on, below the count.
@@ -28,7 +28,7 @@ impl<'a> Image<'a> {
         ensures value { result ≡ handler_in self.now }
         ensures bound { result < length (program self.now) }
     {
-        self.head.handler
+        self.handler
     }
 
     /// The instruction at a place; none at or past the count.
@@ -36,8 +36,7 @@ impl<'a> Image<'a> {
     pub fn fetch(&self, place: u32) -> Option<Instruction>
         ensures { result ≡ slice_get (program self.now) place }
     {
-        let bytes = self.records.get(8 * place as usize..)?;
-        let (record, _) = Record::split(bytes)?;
-        record.instruction().ok()
+        let record = self.records.get(place as usize)?;
+        Record::from(*record).instruction().ok()
     }
 }

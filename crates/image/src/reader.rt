@@ -1,4 +1,5 @@
 ghost use Rattle.std.specs.Prelude.{◌≡◌, Ok, Err};
+ghost use Rattle.std.proofs.Common.{arith};
 ghost use Rattle.image.specs.Reading.{head_of, decoder_fault, image_of};
 ghost use Rattle.image.specs.Meaning.{told};
 
@@ -10,19 +11,16 @@ use record::{Record, RecordFault};
 /// Records in a row: each must be an instruction.
 struct Records;
 
-impl Entries for Records {
-    const WIDTH: u8 = 8;
-
-    ghost WIDTH = { 8 };
-
+impl Entries<8> for Records {
     type Fault = RecordFault;
 
     ghost fault = { λ _ index bytes. decoder_fault bytes };
 
-    fn judge<'a>(&self, _index: u16, bytes: &'a [u8]) -> Option<Result<&'a [u8], RecordFault>> {
-        let (record, rest) = Record::split(bytes)?;
-        Some(record.instruction().map(|_| rest))
+    fn judge(&self, _index: u16, entry: &[u8; 8]) -> Result<(), RecordFault> {
+        Record::from(*entry).instruction().map(|_| ())
     }
+
+    ghost some = { Prim.omega arith };
 }
 
 /// The numbers of the first nine bytes, where they begin an image.
@@ -52,7 +50,16 @@ pub fn read_image(bytes: &[u8]) -> Result<(Image<'_>, &[u8]), ImageFault>
       | Err fault ↦ image_of bytes.now ≡ Err fault
     ] }
 {
-    let head = read_head(bytes)?;
-    let (records, rest) = read_entries(&Records, bytes, 9, head.count)?;
-    Ok((Image { head, records }, rest))
+    let Head {
+        version,
+        count,
+        handler,
+    } = read_head(bytes)?;
+    let (records, rest) = read_entries(&Records, bytes, 9, count)?;
+    let image = Image {
+        version,
+        handler,
+        records,
+    };
+    Ok((image, rest))
 }

@@ -2,7 +2,7 @@ ghost use Rattle.std.specs.Prelude.{◌≡◌};
 ghost use Rattle.image.specs.Faults.{image_refusal};
 
 use crate::faults::ImageFault;
-use fields::{EntriesFault, HeadFault, Refusal};
+use fields::{EntriesFault, Refusal};
 
 impl From<ImageFault> for Refusal {
     ghost from_gives = { λ f r. r ≡ image_refusal f };
@@ -11,9 +11,7 @@ impl From<ImageFault> for Refusal {
     // A match, since cases that hold something can have no numbers of their own.
     fn from(fault: ImageFault) -> Refusal {
         let (number, place) = match fault {
-            ImageFault::Head(HeadFault::Short { handed }) => (1, handed),
-            ImageFault::Head(HeadFault::Mark) => (2, 0),
-            ImageFault::Head(HeadFault::Version) => (3, 3),
+            ImageFault::Head(fault) => return fault.refusal(1, 2, 3),
             ImageFault::Count => (4, 5),
             ImageFault::Handler => (5, 7),
             ImageFault::Records(EntriesFault::Short { handed }) => (6, handed),

@@ -1,7 +1,7 @@
 //! The instructions that records are.
 use crate::images::{one, two};
 use image::{Image, read_image};
-use instruction::{Instruction, Operand};
+use instruction::{Instruction, Operand, Register};
 use record::Record;
 use std::process::Abort;
 use std::test::Fail;
@@ -15,6 +15,7 @@ fn operand_told(operand: Operand) -> (u8, u32) {
 }
 
 /// An instruction as numbers: its variant's place in the table, two small numbers, two operands.
+// As numbers, so that a record and its instruction are one row of a table.
 type Told = (u8, u8, u8, (u8, u32), (u8, u32));
 
 fn told(instruction: Instruction) -> Told {
@@ -145,6 +146,29 @@ fn places(rt: HostRuntime) -> Result<(), Fail> {
         "one after the other"
     );
     Ok(())
+}
+
+#[test]
+fn needs_of_a_stage(rt: HostRuntime) {
+    let register = Register::named(1);
+    let found = [
+        Instruction::Halt,
+        Instruction::Jump { target: 1 },
+        Instruction::Set {
+            destination: register,
+            word: 1,
+        },
+        Instruction::JumpRegister {
+            target: register,
+            guess: 1,
+        },
+    ]
+    .map(Instruction::needs_stage);
+    assert_eq!(rt;
+        found,
+        [false, false, true, true],
+        "only a halt and a jump need none"
+    );
 }
 
 /// The fields of the record that the bytes begin with, and how many bytes are left.

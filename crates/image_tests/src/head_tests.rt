@@ -181,6 +181,8 @@ fn an_image_after_the_image(rt: HostRuntime) -> Result<(), Fail> {
 
 /// Adds 65,536 bytes of noise: the high bytes of x -> 1,664,525 x + 1,013,904,223 mod 2^32, from
 /// x = 1. The first is 1,015,568,748 div 2^24 = 60.
+// The tests of jobs have these lines too: a library for them would make a public call of them, with
+// a contract.
 fn add_noise(bytes: &mut Vec<u8>) -> Result<(), AllocError> {
     let mut x = 1u32;
     for _ in 0..65536 {

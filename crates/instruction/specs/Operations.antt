@@ -1,5 +1,5 @@
--- The number of an instruction's operation.
-use Rattle.std.specs.Prelude.{ℕ, ◌+◌}
+-- The number of an instruction's operation, and whether it needs a stage.
+use Rattle.std.specs.Prelude.{ℕ, ◌+◌, Bool, not, nat_lt}
 use Rattle.instruction.specs.declared.instructions.Instruction.{Instruction}
 use Rattle.instruction.specs.declared.instructions.Instruction.TheVariants.{Halt, Jump, Set, BranchZero, JumpRegister, Load, Store, Compute}
 use Rattle.instruction.specs.Named.{unit_op_number}
@@ -13,3 +13,7 @@ operation_of (JumpRegister target guess) = 4
 operation_of (Load destination base offset) = 5
 operation_of (Store base stored offset) = 6
 operation_of (Compute operation destination first second) = 16 + unit_op_number operation
+
+-- the halt and the jump need no stage
+abbrev pub needs_stage : Instruction → Bool
+needs_stage i = not (nat_lt (operation_of i) 2)

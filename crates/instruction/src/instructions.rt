@@ -1,21 +1,21 @@
 use crate::numbers::{Register, UnitOp};
 
 /// Where an instruction takes a word from.
-#[derive(Clone, Copy)]
+#[derive(Clone, Copy, Debug, PartialEq)]
 pub enum Operand {
     Register(Register),
     Literal(u32),
 }
 
 /// The operands of an instruction, as many as it has.
-#[derive(Clone, Copy, Default)]
+#[derive(Clone, Copy, Debug, Default, PartialEq)]
 pub struct Operands {
     pub first: Option<Operand>,
     pub second: Option<Operand>,
 }
 
 /// A decoded record.
-#[derive(Clone, Copy)]
+#[derive(Clone, Copy, Debug, PartialEq)]
 pub enum Instruction {
     Halt,
     Jump {

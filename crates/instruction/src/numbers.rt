@@ -11,7 +11,7 @@ pub struct Register {
 }
 
 /// One of a unit's operations, 0 to 15.
-#[derive(Clone, Copy)]
+#[derive(Clone, Copy, Debug, PartialEq)]
 pub struct UnitOp {
     pub(crate) number: u8,
     ghost below: { number < 16 },

@@ -1,5 +1,5 @@
 ghost use Rattle.std.specs.Prelude.{◌≡◌};
-ghost use Rattle.instruction.specs.Operations.{operation_of};
+ghost use Rattle.instruction.specs.Operations.{operation_of, needs_stage};
 
 use crate::instructions::Instruction;
 
@@ -19,5 +19,12 @@ impl Instruction {
             Instruction::Store { .. } => 6,
             Instruction::Compute { operation, .. } => 16 + operation.number(),
         }
+    }
+
+    /// Does it need a stage that can execute it? A halt and a jump need none.
+    pub fn needs_stage(self) -> bool
+        ensures { result ≡ needs_stage self }
+    {
+        !matches!(self, Instruction::Halt | Instruction::Jump { .. })
     }
 }

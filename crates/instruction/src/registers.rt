@@ -4,6 +4,9 @@ ghost use Rattle.instruction.specs.Named.{register, register_number};
 use crate::numbers::Register;
 
 impl Register {
+    /// The register that a trap writes.
+    pub const TRAP: Register = Register { number: 15 };
+
     /// The register that the low four bits name.
     pub fn named(bits: u8) -> Register
         ensures { result ≡ register bits }

@@ -94,7 +94,7 @@ fn numbered_lines(rt: HostRuntime) -> Result<(), Fail> {
     let mut log = Log::new(&mut places);
     assert_eq!(rt; (log.add(trapped), log.add(halted)), (Ok(()), Ok(())));
     let mut text = String::from_str(heap, "all:\n")?;
-    log.write_numbered(heap, &mut text)?;
+    write!(text, "{log}")?;
     assert_eq!(rt;
         text.as_str(),
         "all:\n1 70000 3 15 201072\n2 3 4 0 0\n",

@@ -2,7 +2,8 @@ use image::Image;
 use layout::Layout;
 use moves::MoveList;
 
-// Each state is consumed by the call that reads the next part, so the parts are read in order.
+// Each state is consumed by the call that reads the next part, so the parts are read in order. How
+// many bytes the job has stands beside what is left: where the next part begins is their difference.
 
 /// The bytes of a job, of which nothing is read yet.
 pub struct JobBytes<'a> {

@@ -1,6 +1,6 @@
 //! Fit: a stage for every record, then an operation that the unit knows.
 use crate::told::{Told, add, put, told, two_stages};
-use fit::{Fitted, fit};
+use fit::fit;
 use image::read_image;
 use layout::read_layout;
 use std::alloc::{AllocError, Global};
@@ -28,15 +28,8 @@ fn three(operations: [u8; 3]) -> [u8; 33] {
 fn refusal_of<'a>(image: &'a [u8], layout: &'a [u8]) -> Option<Told> {
     let (image, _) = read_image(image).ok()?;
     let (layout, _) = read_layout(layout).ok()?;
-    match fit::<WholeNumber>(image, layout) {
-        Ok(
-            Fitted {
-                image: _,
-                layout: _,
-            },
-        ) => Some(None),
-        Err(fault) => Some(Some(told(fault.into()))),
-    }
+    let fault = fit::<WholeNumber>(image, layout).err();
+    Some(fault.map(|fault| told(fault.into())))
 }
 
 /// Three operations, the sets of the bottom and the top, and the answer.

@@ -290,9 +290,5 @@ fn noise_after_each_part(rt: HostRuntime) -> Result<(), Fail> {
 
 /// So many of the job's bytes.
 fn begun(heap: Global, length: usize) -> Result<Vec<u8>, AllocError> {
-    let mut bytes = Vec::new(heap);
-    for byte in JOB.iter().take(length) {
-        bytes.push(*byte)?;
-    }
-    Ok(bytes)
+    JOB[..length.min(JOB.len())].to_vec(heap)
 }

@@ -1,5 +1,6 @@
 //! How answers are compared, and bytes to read.
-// Two crates of tests have these few lines each: a library for them would make public calls of them, with contracts.
+// Two crates of tests have these few lines each: a library for them would make public calls of
+// them, with contracts.
 use fields::Refusal;
 use std::alloc::AllocError;
 

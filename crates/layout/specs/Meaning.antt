@@ -5,7 +5,7 @@ use Rattle.layout.specs.Reading.{Contents, sets_of}
 
 -- the set of each stage, stage 0 first
 abbrev pub sets_in : Layout → List ℕ
-sets_in l = sets_of l.stages l.sets.now
+sets_in l = sets_of l.sets.now
 
 -- a layout and what follows it, as reading tells them
 abbrev pub told : Layout → List ℕ → Contents

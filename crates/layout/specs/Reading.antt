@@ -1,9 +1,9 @@
 -- What a layout is read as, from a list of bytes.
-use Rattle.std.specs.Prelude.{◌≡◌, ℕ, ◌+◌, ◌*◌, ◌/◌, ◌%◌, ◌≤◌, Bool, true, cond, not, ◌&&◌, List, length, is_some, Some, None, Ok, Err, Option, Result, ◌==◌, nat_le, nat_lt, codes}
+use Rattle.std.specs.Prelude.{◌≡◌, ℕ, ◌+◌, ◌/◌, ◌%◌, ◌≤◌, Bool, true, cond, not, ◌&&◌, List, length, is_some, Some, None, Ok, Err, Option, Result, ◌==◌, nat_le, nat_lt, codes, map}
 use Rattle.fields.specs.declared.scanning.EntriesFault.{EntriesFault}
 use Rattle.fields.specs.Numbers.{byte_at, four_at}
-use Rattle.fields.specs.Scanning.{first_in, told, entries_of}
-use Rattle.fields.specs.Files.{headed, split_of, after}
+use Rattle.fields.specs.Scanning.{first_in, numbered}
+use Rattle.fields.specs.Files.{headed, split_of, part_then}
 use Rattle.layout.specs.declared.faults.SetFault.{SetFault}
 use Rattle.layout.specs.declared.faults.SetFault.TheVariants.{Unheard, MemoryBelowTop}
 use Rattle.layout.specs.declared.faults.LayoutFault.{LayoutFault}
@@ -27,25 +27,25 @@ set_wrong n stage set =
 abbrev pub set_wrong_at : ℕ → ℕ → List ℕ → Option SetFault
 set_wrong_at n stage bytes = set_wrong n stage (four_at bytes 0)
 
--- the first fault of so many sets of a layout of n stages
-abbrev pub fault_in : ℕ → ℕ → List ℕ → Option (EntriesFault SetFault)
-fault_in n left bytes = first_in (told (set_wrong_at n)) 4 left 0 bytes
+-- the first fault of the sets of a layout, one for each stage
+abbrev pub fault_in : List (List ℕ) → Option (EntriesFault SetFault)
+fault_in sets = first_in (numbered (set_wrong_at (length sets))) 0 sets
 
--- the answer to each question that a layout is asked was yes: of its number of stages and its sets' bytes
-abbrev pub WasRead : ℕ → List ℕ → Type 0
-WasRead stages sets = (2 ≤ stages) × (stages ≤ 16) × (length sets ≡ 4 * stages) × (not (is_some (fault_in stages stages sets)) ≡ true)
+-- the answer to each question that a layout is asked was yes: of its number of stages and their sets
+abbrev pub WasRead : List (List ℕ) → Type 0
+WasRead sets = (2 ≤ length sets) × (length sets ≤ 16) × (not (is_some (fault_in sets)) ≡ true)
 
--- so many sets in a row
+-- the set of a stage, as a number
 abbrev pub set_in : List ℕ → ℕ
 set_in bytes = four_at bytes 0
 
-abbrev pub sets_of : ℕ → List ℕ → List ℕ
-sets_of n bytes = entries_of set_in 4 n bytes
+abbrev pub sets_of : List (List ℕ) → List ℕ
+sets_of sets = map set_in sets
 
 -- the number of stages behind the mark CFL and the version, or the first question of the head whose answer is no
 abbrev pub stages_of : List ℕ → Result ℕ LayoutFault
 stages_of bytes =
-    after (headed (codes "CFL") 1 bytes) Head
+    part_then (headed (codes "CFL") 1 bytes) Head
     (λ _. cond (not (nat_le 2 (byte_at bytes 5) && nat_le (byte_at bytes 5) 16)) (Err Stages) (Ok (byte_at bytes 5)))
 
 -- what reading a layout tells: the set of each stage, stage 0 first
@@ -53,12 +53,13 @@ pub record Contents : Type 0 where
   pub sets : List ℕ
   pub rest : List ℕ
 
-abbrev pub contents : ℕ → List ℕ × List ℕ → Contents
-contents n split = record { sets = sets_of n split.0; rest = split.1 }
+abbrev pub contents : List (List ℕ) × List ℕ → Contents
+contents split = record { sets = sets_of split.0; rest = split.1 }
 
-abbrev pub with_stages : ℕ → List ℕ → Result Contents LayoutFault
-with_stages n bytes = after (split_of (set_wrong_at n) 4 6 n bytes) Sets (λ split. Ok (contents n split))
+-- the sets behind the head, or the first question of them whose answer is no
+abbrev pub with_stages : List ℕ → ℕ → Result Contents LayoutFault
+with_stages bytes n = part_then (split_of (set_wrong_at n) 4 6 n bytes) Sets (λ split. Ok (contents split))
 
 -- the layout that the bytes begin with, or the first question whose answer is no
 abbrev pub layout_of : List ℕ → Result Contents LayoutFault
-layout_of bytes = after (stages_of bytes) (λ fault. fault) (λ n. with_stages n bytes)
+layout_of bytes = part_then (stages_of bytes) (λ fault. fault) (with_stages bytes)

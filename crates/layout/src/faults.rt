@@ -3,7 +3,8 @@ ghost use Rattle.layout.specs.declared.faults.LayoutFault.TheVariants.{Head, Set
 
 use fields::{EntriesFault, HeadFault};
 
-/// Why a number is no set of operations for its stage; its number is that of the question that decided.
+/// Why a number is no set of operations for its stage; its number is that of the question that
+/// decided.
 #[derive(Clone, Copy, Debug, PartialEq)]
 pub enum SetFault {
     Unheard = 15,

@@ -28,5 +28,5 @@ pub fn read_layout(bytes: &[u8]) -> Result<(Layout<'_>, &[u8]), LayoutFault>
 {
     let stages = read_stages(bytes)?;
     let (sets, rest) = read_entries(&StageSets { stages }, bytes, 6, u16::from(stages))?;
-    Ok((Layout { stages, sets }, rest))
+    Ok((Layout { sets }, rest))
 }

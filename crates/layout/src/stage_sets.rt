@@ -1,6 +1,7 @@
 ghost use Rattle.std.specs.Prelude.{◌≡◌};
+ghost use Rattle.std.proofs.Common.{arith};
 ghost use Rattle.fields.specs.Scanning.{verdict};
-ghost use Rattle.layout.specs.Reading.{set_wrong, set_wrong_at};
+ghost use Rattle.layout.specs.Reading.{set_in, set_wrong, set_wrong_at};
 
 use crate::faults::SetFault;
 use fields::Entries;
@@ -9,6 +10,14 @@ use fields::Entries;
 #[derive(Clone, Copy)]
 pub(crate) struct StageSets {
     pub(crate) stages: u8,
+}
+
+/// The number that the bytes of a set are.
+pub(crate) fn number(set: &[u8; 4]) -> u32
+    ensures { result ≡ set_in set.now }
+{
+    let [b3, b2, b1, b0] = *set;
+    u32::from_be_bytes([b3, b2, b1, b0])
 }
 
 impl StageSets {
@@ -26,20 +35,14 @@ impl StageSets {
     }
 }
 
-impl Entries for StageSets {
-    const WIDTH: u8 = 4;
-
-    ghost WIDTH = { 4 };
-
+impl Entries<4> for StageSets {
     type Fault = SetFault;
 
     ghost fault = { λ sets. set_wrong_at sets.stages };
 
-    fn judge<'a>(&self, index: u16, bytes: &'a [u8]) -> Option<Result<&'a [u8], SetFault>> {
-        let [b3, b2, b1, b0, rest @ ..] = bytes else {
-            return None;
-        };
-        let set = u32::from_be_bytes([*b3, *b2, *b1, *b0]);
-        Some(self.check(index, set).map(|()| rest))
+    fn judge(&self, index: u16, entry: &[u8; 4]) -> Result<(), SetFault> {
+        self.check(index, number(entry))
     }
+
+    ghost some = { Prim.omega arith };
 }

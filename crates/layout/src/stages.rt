@@ -5,6 +5,7 @@ ghost use Rattle.layout.specs.Meaning.{sets_in};
 ghost use Rattle.layout.specs.Able.{able, LastAble, able_from};
 
 use crate::layouts::Layout;
+use crate::stage_sets::number;
 use fields::holds;
 
 impl<'a> Layout<'a> {
@@ -14,18 +15,15 @@ impl<'a> Layout<'a> {
         ensures low { 2 ≤ result }
         ensures high { result ≤ 16 }
     {
-        usize::from(self.stages)
+        self.sets.len()
     }
 
     /// The set of a stage.
     fn set(&self, stage: usize) -> u32
-        requires { stage < self.now.stages }
+        requires { stage < length (sets_in self.now) }
         ensures { result ≡ slice_index (sets_in self.now) stage }
     {
-        let [b3, b2, b1, b0, ..] = &self.sets[4 * stage..] else {
-            unreachable!()
-        };
-        u32::from_be_bytes([*b3, *b2, *b1, *b0])
+        number(&self.sets[stage])
     }
 
     /// Can the stage execute the operation? No stage past the top can.

@@ -2,7 +2,7 @@ ghost use Rattle.std.specs.Prelude.{◌≡◌};
 ghost use Rattle.layout.specs.Faults.{set_number, layout_refusal};
 
 use crate::faults::{LayoutFault, SetFault};
-use fields::{EntriesFault, HeadFault, Refusal};
+use fields::{EntriesFault, Refusal};
 
 impl SetFault {
     /// The number of the question that decided.
@@ -21,9 +21,7 @@ impl From<LayoutFault> for Refusal {
     // A match, since cases that hold something can have no numbers of their own.
     fn from(fault: LayoutFault) -> Refusal {
         let (number, place) = match fault {
-            LayoutFault::Head(HeadFault::Short { handed }) => (10, handed),
-            LayoutFault::Head(HeadFault::Mark) => (11, 0),
-            LayoutFault::Head(HeadFault::Version) => (12, 3),
+            LayoutFault::Head(fault) => return fault.refusal(10, 11, 12),
             LayoutFault::Stages => (13, 5),
             LayoutFault::Sets(EntriesFault::Short { handed }) => (14, handed),
             LayoutFault::Sets(EntriesFault::Entry { index, fault }) => {

@@ -22,6 +22,7 @@ module _ (lent : LentWords) where
   kept_of_lent = record { roots = lent_root ∷ []; beyond = drop 65536 lent_in ∷ [] }
 
 module _ {M : Type 0} (loan : Loan M) where
+  -- the memory that was lent
   abbrev pub memory_in : M
   memory_in = loan.below.now
 

@@ -50,6 +50,7 @@ module _ {M : Type 0} (words : M → List ℕ) (window : Window M) where
   abbrev pub words_below : List ℕ
   words_below = words window.below
 
+  -- the words below that are in the window
   abbrev pub seen_through : List ℕ
   seen_through = window_of words_below window.base window.size
 

@@ -9,6 +9,7 @@ use crate::access::{AccessFault, WindowFault};
 use crate::traits::{Memory, Readable};
 
 /// A part of the memory below: `size` addresses from `base` on, or none where they do not fit.
+// A window is made of any base and size, so each access asks whether they fit.
 #[derive(Drop)]
 pub struct Window<M> {
     below: M,

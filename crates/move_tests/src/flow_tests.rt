@@ -45,8 +45,8 @@ const JUMP_REGISTER: [Line; 32] = [
     Line::Fetches(Some(2)),
 ];
 
-/// A guess of JumpRegister that is right owes nothing; one that is wrong kills what was fetched behind
-/// it, and fetch goes on at the target.
+/// A guess of JumpRegister that is right owes nothing; one that is wrong kills what was fetched
+/// behind it, and fetch goes on at the target.
 #[test]
 fn jump_register(rt: HostRuntime) -> Result<(), Fail> {
     shows(
@@ -238,8 +238,8 @@ const TRAP_IN_FLIGHT: [Line; 54] = [
     Line::Fetches(None),
 ];
 
-/// A quotient by 0 kills what was fetched behind it, a halt among them, which then never halts; dropped,
-/// it opens fetch at the handler.
+/// A quotient by 0 kills what was fetched behind it, a halt among them, which then never halts;
+/// dropped, it opens fetch at the handler.
 #[test]
 fn trap_in_flight(rt: HostRuntime) -> Result<(), Fail> {
     shows(
@@ -414,8 +414,8 @@ fn sixteen_stages(rt: HostRuntime) -> Result<(), Fail> {
     )
 }
 
-/// The memory handed in at RETIRE is smaller than the one at EXECUTE: the Store leaves with its record,
-/// and no word changes.
+/// The memory handed in at RETIRE is smaller than the one at EXECUTE: the Store leaves with its
+/// record, and no word changes.
 #[test]
 fn store_into_a_smaller_memory(rt: HostRuntime) -> Result<(), Fail> {
     let mut words = [1, 2, 3, 4];

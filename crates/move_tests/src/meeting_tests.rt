@@ -96,8 +96,8 @@ const VALUES_ON_THEIR_WAY: [Line; 29] = [
     ),
 ];
 
-/// A value is taken by first, by second, by both; it passes who does not write it, vanishes at a waiting
-/// writer, and takes the word of an executed one.
+/// A value is taken by first, by second, by both; it passes who does not write it, vanishes at a
+/// waiting writer, and takes the word of an executed one.
 #[test]
 fn values_on_their_way(rt: HostRuntime) -> Result<(), Fail> {
     shows(
@@ -150,8 +150,8 @@ const A_TRAPPED_WRITER: [Line; 23] = [
     ),
 ];
 
-/// A packet that trapped writes r15 alone: a value of its destination passes, one of r15 takes the word
-/// of the trap.
+/// A packet that trapped writes r15 alone: a value of its destination passes, one of r15 takes the
+/// word of the trap.
 #[test]
 fn a_trapped_writer(rt: HostRuntime) -> Result<(), Fail> {
     shows(
@@ -208,8 +208,8 @@ const KILLED_PACKETS_DO_NOTHING: [Line; 26] = [
     Line::Holds(2, None, None),
 ];
 
-/// A wrong-branch result kills and stays; INSERT meets nobody, so the branch itself is live. A value
-/// passes a killed packet, which neither takes it nor stops it.
+/// A wrong-branch result kills and stays; INSERT meets nobody, so the branch itself is live. A
+/// value passes a killed packet, which neither takes it nor stops it.
 #[test]
 fn killed_packets_do_nothing(rt: HostRuntime) -> Result<(), Fail> {
     shows(

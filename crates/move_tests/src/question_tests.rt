@@ -209,8 +209,8 @@ const WRONG_STATES: [Line; 45] = [
     Line::Holds(2, None, Some(News::Value(1, 0))),
 ];
 
-/// Executed packets are not executed, packets that owe nothing insert nothing, waiting and owing ones do
-/// not retire; killed ones are not executed, insert nothing, and leave without a record.
+/// Executed packets are not executed, packets that owe nothing insert nothing, waiting and owing
+/// ones do not retire; killed ones are not executed, insert nothing, and leave without a record.
 #[test]
 fn wrong_states(rt: HostRuntime) -> Result<(), Fail> {
     shows(
@@ -267,8 +267,8 @@ const SOURCES_AND_STAGES: [Line; 27] = [
     Line::Fetches(Some(3)),
 ];
 
-/// A packet is executed once its words have come, in a stage that can; it does not climb past the last
-/// such stage before.
+/// A packet is executed once its words have come, in a stage that can; it does not climb past the
+/// last such stage before.
 #[test]
 fn sources_and_stages(rt: HostRuntime) -> Result<(), Fail> {
     shows(

@@ -55,6 +55,8 @@ pub(crate) enum Line {
 }
 
 /// The image of the rows.
+// Other crates of tests have this and the next one too: a library for them would make public calls
+// of them, with contracts.
 fn image_of(heap: Global, handler: u16, rows: &[Row]) -> Result<Vec<u8>, Fail> {
     let [c1, c0] = u16::try_from(rows.len())?.to_be_bytes();
     let [h1, h0] = handler.to_be_bytes();
@@ -80,11 +82,10 @@ fn layout_of(heap: Global, sets: &[u32]) -> Result<Vec<u8>, Fail> {
 type Answer = Result<Option<(u32, u8, u32, u32)>, u8>;
 
 fn answer(pipeline: &mut Pipeline<'_>, words: &mut [u32], kind: u8, place: u8) -> Answer {
-    match pipeline.make_move(kind, place, &WholeNumber, &mut LentWords::new(words)) {
-        Ok(Some(record)) => Ok(Some((record.place, record.kind(), record.target(), record.word()))),
-        Ok(None) => Ok(None),
-        Err(fault) => Err(fault.number()),
-    }
+    let given = pipeline
+        .make_move(kind, place, &WholeNumber, &mut LentWords::new(words))
+        .map_err(|fault| fault.number())?;
+    Ok(given.map(|record| (record.place, record.kind(), record.target(), record.word())))
 }
 
 /// Makes a move, and compares the answer.
@@ -112,10 +113,9 @@ fn holds(
     packet: Option<ToldPacket>,
     news: Option<News>,
 ) {
-    let found = match pipeline.stage(number) {
-        Some(stage) => told_stage(&stage),
-        None => (None, None),
-    };
+    let found = pipeline
+        .stage(number)
+        .map_or((None, None), |stage| told_stage(&stage));
     assert_eq!(rt;
         (number, found),
         (number, (packet, news)),
@@ -130,11 +130,7 @@ fn fetches(rt: &impl Abort, pipeline: &Pipeline<'_>, expected: Option<u32>) {
 
 /// Compares the word at an address.
 fn has_word(rt: &impl Abort, words: &[u32], address: usize, expected: u32) {
-    let found = if address < words.len() {
-        Some(words[address])
-    } else {
-        None
-    };
+    let found = words.get(address).copied();
     assert_eq!(rt;
         (address, found),
         (address, Some(expected)),
@@ -184,8 +180,8 @@ fn built<'a>(
     Ok(())
 }
 
-/// A fresh pipeline of the rows and the sets follows one table over some words, and then another over
-/// others.
+/// A fresh pipeline of the rows and the sets follows one table over some words, and then another
+/// over others.
 pub(crate) fn shows_over(
     rt: &impl Abort,
     heap: Global,

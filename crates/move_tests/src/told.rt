@@ -1,5 +1,7 @@
 //! What stands in a pipeline, told so that it can be compared.
-use packets::{Packet, PacketState, PipeResult, Source, Stage};
+// Told in short forms of its own: the tables name a packet on one line, and where a result or a
+// word has its register's number they show the number.
+use packets::{Packet, PacketState, PipeResult, Source, Stage, Standing};
 
 /// A result: a register's number and its word, or the place where fetch goes on.
 #[derive(Clone, Copy, Debug, PartialEq)]
@@ -17,13 +19,13 @@ pub(crate) enum Work {
     Done,
 }
 
-pub(crate) const LIVE: bool = true;
+pub(crate) const LIVE: Standing = Standing::Live;
 
-pub(crate) const KILLED: bool = false;
+pub(crate) const KILLED: Standing = Standing::Killed;
 
-/// A packet: its place, whether it is live or killed, its work, and the words of its sources, as far
-/// as they have come.
-pub(crate) type ToldPacket = (u32, bool, Work, [Option<u32>; 2]);
+/// A packet: its place, whether it is live or killed, its work, and the words of its sources, as
+/// far as they have come.
+pub(crate) type ToldPacket = (u32, Standing, Work, [Option<u32>; 2]);
 
 fn told_result(found: PipeResult) -> News {
     match found {
@@ -36,10 +38,9 @@ fn told_result(found: PipeResult) -> News {
 fn told_state(state: PacketState) -> Work {
     match state {
         PacketState::Waiting => Work::Waiting,
-        PacketState::Executed { owed, .. } => match owed {
-            Some(result) => Work::Owes(told_result(result)),
-            None => Work::Done,
-        },
+        PacketState::Executed { owed, .. } => {
+            owed.map_or(Work::Done, |owed| Work::Owes(told_result(owed)))
+        }
     }
 }
 
@@ -56,7 +57,7 @@ fn told_packet(packet: &Packet) -> ToldPacket {
     let words = [told_source(packet.first), told_source(packet.second)];
     (
         packet.fetched.place,
-        packet.is_live(),
+        packet.standing,
         told_state(packet.state),
         words,
     )
@@ -64,13 +65,7 @@ fn told_packet(packet: &Packet) -> ToldPacket {
 
 /// The packet and the result of a stage.
 pub(crate) fn told_stage(stage: &Stage) -> (Option<ToldPacket>, Option<News>) {
-    let packet = match &stage.packet {
-        Some(packet) => Some(told_packet(packet)),
-        None => None,
-    };
-    let result = match stage.result.held {
-        Some(result) => Some(told_result(result)),
-        None => None,
-    };
+    let packet = stage.packet.as_ref().map(told_packet);
+    let result = stage.result.held.map(told_result);
     (packet, result)
 }

@@ -1,9 +1,8 @@
 -- Each refusal of a move list, with its byte place.
 use Rattle.std.specs.Prelude.{ℕ, ◌+◌, ◌*◌}
-use Rattle.fields.specs.declared.heads.HeadFault.TheVariants.{Short, Mark, Version}
 use Rattle.fields.specs.declared.refusal.Refusal.{Refusal}
-use Rattle.fields.specs.declared.scanning.EntriesFault.TheVariants.{Entry}
-use Rattle.fields.specs.declared.scanning.EntriesFault.TheVariants as entries
+use Rattle.fields.specs.declared.scanning.EntriesFault.TheVariants.{Short, Entry}
+use Rattle.fields.specs.Refusals.{head_refusal}
 use Rattle.moves.specs.declared.faults.MoveFault.{MoveFault}
 use Rattle.moves.specs.declared.faults.MoveFault.TheVariants.{Kind, Place}
 use Rattle.moves.specs.declared.faults.MoveListFault.{MoveListFault}
@@ -19,9 +18,7 @@ move_offset Place = 1
 
 -- the head has seven bytes, and each move two; where bytes are missing, the place is the number handed in
 abbrev pub list_refusal : MoveListFault → Refusal
-list_refusal (Head (Short handed)) = record { number = 17; place = handed }
-list_refusal (Head Mark) = record { number = 18; place = 0 }
-list_refusal (Head Version) = record { number = 19; place = 3 }
+list_refusal (Head fault) = head_refusal 17 18 19 fault
 list_refusal Count = record { number = 20; place = 5 }
-list_refusal (Moves (entries.Short handed)) = record { number = 21; place = handed }
+list_refusal (Moves (Short handed)) = record { number = 21; place = handed }
 list_refusal (Moves (Entry index fault)) = record { number = move_number fault; place = 7 + 2 * index + move_offset fault }

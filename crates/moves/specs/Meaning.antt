@@ -7,7 +7,7 @@ use Rattle.fields.specs.Rows.{left_of}
 use Rattle.moves.specs.Reading.{Contents, list_of}
 
 abbrev pub moves_in : MoveList → List Move
-moves_in l = list_of l.count l.bytes.now
+moves_in l = list_of l.entries.now
 
 -- a move list and what follows it, as reading tells them
 abbrev pub told : MoveList → List ℕ → Contents

@@ -29,6 +29,7 @@ impl TryFrom<u8> for MoveKind {
 
 impl MoveKind {
     /// Its number, 1 to 8.
+    // One cast for each enum: a trait would ask for the same line in an impl of each.
     pub fn number(self) -> u8
         ensures { result ≡ number_of self }
     {
@@ -36,6 +37,7 @@ impl MoveKind {
     }
 
     /// May a list name this place for the kind?
+    // A match, since which places a kind has is no order of the kinds.
     fn fits(self, place: u8) -> bool
         ensures { result ≡ fits self place }
     {

@@ -13,17 +13,14 @@ impl<'a> MoveList<'a> {
         ensures value { result ≡ length (moves_in self.now) }
         ensures bound { result ≤ 16000 }
     {
-        self.count
+        self.entries.len() as u16
     }
 
     /// The move of this number, from 0; none at or past the count.
     pub fn get(&self, index: u16) -> Option<Move>
         ensures { result ≡ slice_get (moves_in self.now) index }
     {
-        let bytes = self.bytes.get(2 * usize::from(index)..)?;
-        let [kind, place, ..] = bytes else {
-            return None;
-        };
-        Move::decode(*kind, *place).ok()
+        let [kind, place] = *self.entries.get(usize::from(index))?;
+        Move::decode(kind, place).ok()
     }
 }

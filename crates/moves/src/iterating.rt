@@ -1,6 +1,6 @@
 ghost use Rattle.std.specs.Prelude.{◌≡◌, ◌≤◌, length};
 ghost use Rattle.std.proofs.Common.{arith};
-ghost use Rattle.fields.proofs.Scans.{length-entries};
+ghost use Rattle.std.proofs.lemmas.List.{length-map};
 ghost use Rattle.moves.specs.Meaning.{moves_in, left};
 ghost use Rattle.moves.specs.Reading.{entry_in};
 
@@ -13,11 +13,7 @@ impl<'a> Row for MoveList<'a> {
 
     ghost elements = { moves_in };
 
-    ghost few = { λ l. Prim.omega (
-      arith,
-      length-entries entry_in 2 l.count l.bytes.now,
-      l.read.0,
-    ) };
+    ghost few = { λ l. Prim.omega (arith, length-map l.entries.now entry_in, l.read.0) };
 
     fn element(&self, index: u16) -> Option<Move> {
         self.get(index)

@@ -1,3 +1,4 @@
+ghost use Rattle.std.proofs.Common.{arith};
 ghost use Rattle.moves.specs.Reading.{move_wrong};
 
 use crate::faults::MoveFault;
@@ -8,19 +9,15 @@ use fields::Entries;
 #[derive(Clone, Copy)]
 pub(crate) struct MoveEntries;
 
-impl Entries for MoveEntries {
-    const WIDTH: u8 = 2;
-
-    ghost WIDTH = { 2 };
-
+impl Entries<2> for MoveEntries {
     type Fault = MoveFault;
 
     ghost fault = { λ _ index bytes. move_wrong bytes };
 
-    fn judge<'a>(&self, _index: u16, bytes: &'a [u8]) -> Option<Result<&'a [u8], MoveFault>> {
-        let [kind, place, rest @ ..] = bytes else {
-            return None;
-        };
-        Some(Move::decode(*kind, *place).map(|_| rest))
+    fn judge(&self, _index: u16, entry: &[u8; 2]) -> Result<(), MoveFault> {
+        let [kind, place] = *entry;
+        Move::decode(kind, place).map(|_| ())
     }
+
+    ghost some = { Prim.omega arith };
 }

@@ -12,8 +12,8 @@ pub enum MoveKind {
 }
 
 /// A move: its kind, and the stage or, for a read, the register that it names.
-// A place is a stage or a register as the kind says, and any number of 8 bits, since a move is told and
-// logged as two numbers.
+// A place is a stage or a register as the kind says, and any number of 8 bits, since a move is told
+// and logged as two numbers.
 #[derive(Clone, Copy, Debug, PartialEq)]
 pub struct Move {
     pub kind: MoveKind,

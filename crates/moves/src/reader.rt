@@ -27,6 +27,6 @@ pub fn read_moves(bytes: &[u8]) -> Result<(MoveList<'_>, &[u8]), MoveListFault>
     ] }
 {
     let count = read_count(bytes)?;
-    let (bytes, rest) = read_entries(&MoveEntries, bytes, 7, count)?;
-    Ok((MoveList { count, bytes }, rest))
+    let (entries, rest) = read_entries(&MoveEntries, bytes, 7, count)?;
+    Ok((MoveList { entries }, rest))
 }

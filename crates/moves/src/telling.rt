@@ -2,7 +2,7 @@ ghost use Rattle.std.specs.Prelude.{◌≡◌};
 ghost use Rattle.moves.specs.Faults.{move_number, move_offset, list_refusal};
 
 use crate::faults::{MoveFault, MoveListFault};
-use fields::{EntriesFault, HeadFault, Refusal};
+use fields::{EntriesFault, Refusal};
 
 impl MoveFault {
     /// The number of the question that decided.
@@ -32,9 +32,7 @@ impl From<MoveListFault> for Refusal {
     // A match, since cases that hold something can have no numbers of their own.
     fn from(fault: MoveListFault) -> Refusal {
         let (number, place) = match fault {
-            MoveListFault::Head(HeadFault::Short { handed }) => (17, handed),
-            MoveListFault::Head(HeadFault::Mark) => (18, 0),
-            MoveListFault::Head(HeadFault::Version) => (19, 3),
+            MoveListFault::Head(fault) => return fault.refusal(17, 18, 19),
             MoveListFault::Count => (20, 5),
             MoveListFault::Moves(EntriesFault::Short { handed }) => (21, handed),
             MoveListFault::Moves(EntriesFault::Entry { index, fault }) => (

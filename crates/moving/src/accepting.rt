@@ -8,6 +8,7 @@ use crate::climbing::{fetch, retire};
 use crate::descending::{fetch_on, read_value};
 use effect::Retirement;
 use image::Image;
+use instruction::Register;
 use layout::Layout;
 use memory::{Memory, Readable};
 use moves::{Move, MoveKind};
@@ -15,8 +16,7 @@ use packets::Stage;
 use pipes::Pipes;
 use unit::Unit;
 
-/// Makes a move whose questions were all answered with yes: each changes the one or two stages that
-/// it names.
+/// Makes a move whose questions were all answered with yes.
 // A match, since the kinds are these eight. Unit and memory are parameters of every call: any may
 // be handed in at any of them.
 pub(crate) fn accept<U: Unit, M: Memory>(
@@ -50,7 +50,7 @@ pub(crate) fn accept<U: Unit, M: Memory>(
         MoveKind::Execute => pipes.stages[at].execute(u32::from(image.handler()), unit, memory),
         MoveKind::Insert => pipes.stages[at].insert(),
         MoveKind::Read => {
-            let value = read_value(pipes, place);
+            let value = read_value(pipes, Register::named(place));
             pipes.stages[top].receive(Some(value));
         }
         MoveKind::Retire => {

@@ -1,4 +1,5 @@
-ghost use Rattle.std.specs.Prelude.{◌≡◌, ◌<◌};
+ghost use Rattle.std.specs.Prelude.{◌≡◌};
+ghost use Rattle.instruction.specs.Named.{register_number};
 ghost use Rattle.pipes.specs.Moving.{read_value, fetch_on};
 
 use instruction::Register;
@@ -6,13 +7,12 @@ use packets::PipeResult;
 use pipes::Pipes;
 
 /// READ: the value of a register.
-pub(crate) fn read_value(pipes: &Pipes, register: u8) -> PipeResult
-    requires { register < 16 }
-    ensures { result ≡ read_value pipes.now register }
+pub(crate) fn read_value(pipes: &Pipes, register: Register) -> PipeResult
+    ensures { result ≡ read_value pipes.now (register_number register) }
 {
     PipeResult::Value {
-        register: Register::named(register),
-        word: pipes.registers[usize::from(register)],
+        register,
+        word: pipes.registers[register.index()],
     }
 }
 

@@ -40,6 +40,7 @@ pub fn make<U: Unit, M: Memory>(
 }
 
 /// The same for any two numbers as kind and place.
+// Two numbers, and not a `Move`: any two may be asked, and the call itself answers 31 or 32.
 pub fn make_move<U: Unit, M: Memory>(
     pipes: &mut Pipes,
     image: &Image<'_>,

@@ -3,13 +3,14 @@ ghost use Rattle.fields.specs.Scanning.{verdict};
 ghost use Rattle.layout.specs.Meaning.{sets_in};
 ghost use Rattle.pipes.specs.Questions.{able_for, place_right, ask_fetch, ask_raise, ask_lower, ask_execute, ask_insert, ask_read, ask_retire, ask_drop, asked};
 
-use instruction::Instruction;
 use layout::Layout;
 use moves::{Move, MoveKind};
-use packets::Stage;
+use packets::{Packet, Stage};
 use pipes::{MoveRefusal, Pipes, some_able};
 
 /// May a move of this kind name its place, with so many stages?
+// A match beside the one of `moves`: a list is read without a layout, so that one knows no number of
+// stages.
 fn place_right(stages: usize, next: Move) -> bool
     ensures { result ≡ place_right stages next.kind next.place }
 {
@@ -24,10 +25,13 @@ fn place_right(stages: usize, next: Move) -> bool
 }
 
 /// Can the stage execute what a packet carries?
-fn able_for(layout: &Layout<'_>, stage: usize, instruction: Option<Instruction>) -> bool
-    ensures { result ≡ able_for (sets_in layout.now) stage instruction }
+fn able_for(layout: &Layout<'_>, stage: usize, packet: &Packet) -> bool
+    ensures { result ≡ able_for (sets_in layout.now) stage packet.now.fetched.instruction }
 {
-    matches!(instruction, Some(instruction) if layout.able(stage, instruction.operation()))
+    matches!(
+        packet.fetched.instruction,
+        Some(instruction) if layout.able(stage, instruction.operation())
+    )
 }
 
 /// FETCH: is fetch open, and the packet slot of stage 0 empty?
@@ -70,8 +74,8 @@ fn ask_lower(here: &Stage, below: &Stage) -> Result<(), MoveRefusal>
     Ok(())
 }
 
-/// EXECUTE: is there a packet that waits and is live, has it its words, and can the stage execute
-/// it?
+/// EXECUTE: is there a packet that waits and is live, does it have its words, and can the stage
+/// execute it?
 fn ask_execute(layout: &Layout<'_>, stage: u8, here: &Stage) -> Result<(), MoveRefusal>
     ensures { result ≡ verdict (ask_execute (sets_in layout.now) stage here.now) }
 {
@@ -82,13 +86,13 @@ fn ask_execute(layout: &Layout<'_>, stage: u8, here: &Stage) -> Result<(), MoveR
     if !packet.ready() {
         return Err(MoveRefusal::SourceMissing);
     }
-    if !able_for(layout, usize::from(stage), packet.fetched.instruction) {
+    if !able_for(layout, usize::from(stage), packet) {
         return Err(MoveRefusal::NoStage);
     }
     Ok(())
 }
 
-/// INSERT: is there a packet, room beside it, and does it owe and is live?
+/// INSERT: is there a packet, is there room beside it, and does the packet owe a result and live?
 fn ask_insert(here: &Stage) -> Result<(), MoveRefusal>
     ensures { result ≡ verdict (ask_insert here.now) }
 {

@@ -16,7 +16,8 @@ use Rattle.packets.specs.declared.packets.PacketState.TheVariants.{Waiting}
 use Rattle.packets.specs.declared.packets.Standing.TheVariants.{Live}
 use Rattle.packets.specs.Packets.{executed_as}
 
--- the place at which fetch goes on: a jump's literal, a branch's where its hint says so, else the next
+-- the place at which fetch goes on: a jump's literal, a branch's where its hint says so, else the
+-- next
 abbrev guess_for : ℕ → Option Instruction → ℕ
 guess_for place None = following place
 guess_for place (Some Halt) = following place

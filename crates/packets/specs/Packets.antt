@@ -37,8 +37,8 @@ ready p = valid p.first && valid p.second
 abbrev pub sources_in : Packet → Sources
 sources_in p = record { first = word_in p.first; second = word_in p.second }
 
--- What an effect owes the packets behind: the value of the register that it writes; where the next place
--- is not the one guessed, a wrong-branch; after a trap always a trap, whatever was guessed.
+-- What an effect owes the packets behind: the value of the register that it writes; where the next
+-- place is not the one guessed, a wrong-branch; after a trap always a trap, whatever was guessed.
 abbrev pub owed_by : ℕ → ℕ → Action → Option PipeResult
 owed_by guess next Nothing = if next == guess then None else Some (result.WrongBranch next)
 owed_by guess next (SetRegister register word) = Some (result.Value register word)
@@ -65,8 +65,8 @@ abbrev pub is_executed : PacketState → Bool
 is_executed Waiting = false
 is_executed (Executed effect owed) = true
 
--- what each move asks of its packet: EXECUTE that it waits and is live, INSERT that it owes and is live,
--- RETIRE that it is killed, or else executed and owing nothing
+-- what each move asks of its packet: EXECUTE that it waits and is live, INSERT that it owes and is
+-- live, RETIRE that it is killed, or else executed and owing nothing
 abbrev pub may_execute : Packet → Bool
 may_execute p = is_live p.standing && not (is_executed p.state)
 

@@ -25,10 +25,7 @@ fn guess(fetched: Fetched) -> u32
 fn at_once(instruction: Option<Instruction>) -> bool
     ensures { result ≡ at_once instruction }
 {
-    matches!(
-        instruction,
-        None | Some(Instruction::Halt | Instruction::Jump { .. })
-    )
+    !instruction.is_some_and(Instruction::needs_stage)
 }
 
 impl Source {

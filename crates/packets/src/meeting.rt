@@ -40,7 +40,7 @@ fn behind(action: Action, register: Register, word: u32) -> u32
                 word
             }
         }
-        Action::Trap { word: written } if register.number() == 15 => written,
+        Action::Trap { word: written } if register == Register::TRAP => written,
         _ => word,
     }
 }

@@ -14,7 +14,7 @@ pub enum PacketState {
 }
 
 /// Whether a packet counts. A killed one keeps its state, and leaves without a trace.
-#[derive(Clone, Copy)]
+#[derive(Clone, Copy, Debug, PartialEq)]
 pub enum Standing {
     Live,
     Killed,

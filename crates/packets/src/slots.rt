@@ -1,9 +1,9 @@
 use crate::results::PipeResult;
 
 /// The result part of a stage.
-// A type of its own and no bare `Option`: a result enters, leaves and meets by the slot's own
-// operations.
-#[derive(Clone, Copy)]
+// A rule of the project: the result slot is a type of its own with its own operations. By them a
+// result enters, leaves and meets.
+#[derive(Clone, Copy, Debug, PartialEq)]
 pub struct ResultSlot {
     pub held: Option<PipeResult>,
 }

@@ -65,6 +65,13 @@ impl ResultSlot {
         self.held.is_none()
     }
 
+    /// A result comes in, or none does.
+    fn put(&mut self, arriving: Option<PipeResult>)
+        ensures { self.new ≡ slot arriving }
+    {
+        self.held = arriving;
+    }
+
     /// Empties the slot, and answers what it held.
     pub fn take(&mut self) -> Option<PipeResult>
         ensures value { result ≡ self.old.held }
@@ -105,7 +112,7 @@ impl Stage {
     pub fn receive(&mut self, arriving: Option<PipeResult>)
         ensures { self.new ≡ met self.old.packet arriving }
     {
-        self.result.held = arriving;
+        self.result.put(arriving);
         self.meet();
     }
 
@@ -132,7 +139,7 @@ impl Stage {
         ensures { self.new ≡ inserting self.old }
     {
         if let Some(packet) = &mut self.packet {
-            self.result.held = packet.owing();
+            self.result.put(packet.owing());
             packet.pay();
         }
     }

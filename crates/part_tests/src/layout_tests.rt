@@ -4,10 +4,7 @@ use layout::read_layout;
 use std::process::Abort;
 
 fn refusal_of(bytes: &[u8]) -> Told {
-    match read_layout(bytes) {
-        Ok(_) => None,
-        Err(fault) => told(fault.into()),
-    }
+    read_layout(bytes).err().map(|fault| told(fault.into()))
 }
 
 /// The layout of sixteen stages, of which one byte is not 0.
@@ -110,8 +107,8 @@ fn versions(rt: HostRuntime) {
     );
 }
 
-/// What a layout tells of an operation: how many stages there are, which of stages 0 to 3 and of one
-/// far past the top can execute it, and the last that can.
+/// What a layout tells of an operation: how many stages there are, which of stages 0 to 3 and of
+/// one far past the top can execute it, and the last that can.
 type Abilities = (usize, [bool; 5], Option<usize>);
 
 /// What the layout tells of the operation, and how many bytes follow it.

@@ -1,5 +1,5 @@
-//! Tests of the readers of layouts and of move lists: every question with its byte place, and both ends
-//! of every bound.
+//! Tests of the readers of layouts and of move lists: every question with its byte place, and both
+//! ends of every bound.
 #![tactic(auto)]
 
 #[cfg(test)]

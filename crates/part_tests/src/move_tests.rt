@@ -6,10 +6,7 @@ use std::process::Abort;
 use std::test::Fail;
 
 fn refusal_of(bytes: &[u8]) -> Told {
-    match read_moves(bytes) {
-        Ok(_) => None,
-        Err(fault) => told(fault.into()),
-    }
+    read_moves(bytes).err().map(|fault| told(fault.into()))
 }
 
 /// The list of two moves, which begin at bytes 7 and 9.

@@ -1,14 +1,14 @@
 //! How answers are compared, and bytes to read.
-// Two crates of tests have these few lines each: a library for them would make public calls of them, with contracts.
+// Two crates of tests have these few lines each: a library for them would make public calls of
+// them, with contracts.
 use fields::Refusal;
 use std::alloc::AllocError;
 
 /// The number and the byte place of a refusal; none where the bytes are read.
 pub(crate) type Told = Option<(u8, usize)>;
 
-pub(crate) fn told(refusal: Refusal) -> Told {
-    let Refusal { number, place } = refusal;
-    Some((number, place))
+pub(crate) fn told(refusal: Refusal) -> (u8, usize) {
+    (refusal.number, refusal.place)
 }
 
 /// The layout of two stages. Their sets begin at bytes 6 and 10.

@@ -2,8 +2,7 @@
 use Rattle.std.proofs.Common.{◌≡◌, ℕ, ◌+◌, ◌<◌, ◌≤◌, true, false, List, [], ◌∷◌, ◌++◌, length, Some, None, Ok, Err, Option, Result, sym, refl, ap, ◌∙◌, subst, arith, length-append}
 use Rattle.std.proofs.lemmas.Bool.{lt-leb, le-leb}
 use Rattle.bounded_log.specs.declared.places.Log.{Log}
-use Rattle.bounded_log.specs.Entries.{added_to, count_after}
-use Rattle.bounded_log.specs.Room.{places_in, count_in, root_in, room, Logs}
+use Rattle.bounded_log.specs.Room.{room, added_if, Logs}
 use Rattle.effect.specs.declared.actions.Retirement.{Retirement}
 use Rattle.effect.specs.Effects.{Table}
 use Rattle.layout.specs.declared.layouts.Layout.{Layout}
@@ -18,7 +17,7 @@ use Rattle.pipes.specs.declared.answers.MoveRefusal.{MoveRefusal}
 use Rattle.pipes.specs.declared.state.Pipes.{Pipes}
 use Rattle.pipes.specs.Moving.{Moved, moved}
 use Rattle.pipes.specs.Draining.{bound, drain_refusal, Drains, DrainsIf, moves_between, DrainsTo}
-use Rattle.pipes.proofs.Logged.{logs_none, logs_one, logs_then, logs_since, logs_room}
+use Rattle.bounded_log.proofs.Logged.{logs_none, logs_one, logs_then, logs_since, logs_room}
 use Rattle.draining.specs.Sound.{Sound}
 use Rattle.draining.specs.Policy.{chosen}
 use Rattle.draining.specs.Measure.{μ}
@@ -99,9 +98,6 @@ module _ {W : World} {sets : List ℕ} {P : Pipes} {words : List ℕ} {old : Log
   few : length t.drawing.moves < bound (length sets)
   few = has_room W sets P words t.drawing.moves Q ws m _ _ t.fit t.laid.low t.laid.high t.drawing.reached t.chose pipes left
 
-  pub counts : made < bound (length sets)
-  counts = omega (arith, few, t.drawing.counted)
-
   pub drawing_falls : d.answer ≡ Ok None → μ sets d.pipes < μ sets Q
   drawing_falls e = reached_falls W sets P words t.drawing.moves Q ws m _ _ t.fit t.laid.low t.laid.high t.drawing.reached t.chose pipes left (answer e)
 
@@ -109,11 +105,11 @@ module _ {W : World} {sets : List ℕ} {P : Pipes} {words : List ℕ} {old : Log
   more = omega (arith, t.drawing.counted, length-append t.drawing.moves (m ∷ []))
 
   -- the log after the move is added
-  module _ {new : Log Move} (places : places_in new ≡ added_to (places_in now) (count_in now) m) (count : count_in new ≡ count_after (places_in now) (count_in now)) (root : root_in new ≡ root_in now) where
+  module _ {new : Log Move} (added : Logs now new (added_if now m)) where
     logs : Logs old new (t.drawing.moves ++ (m ∷ []))
     logs =
         let held = logs_room t.drawing.logs (omega (arith, few, t.drawing.enough)) in
-        logs_then t.drawing.logs (logs_one m (omega (arith, held, few, t.drawing.enough)) places count root)
+        logs_then t.drawing.logs (logs_one m (omega (arith, held, few, t.drawing.enough)) added)
 
     pub drawing_more : d.answer ≡ Ok None → Drawing W sets P words old (made + 1) d.pipes d.words new
     drawing_more e = record {

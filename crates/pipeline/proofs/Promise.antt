@@ -1,7 +1,7 @@
 -- What is promised of every pipeline that is built.
 use Rattle.fit.specs.Fitting.{All, placed}
 use Rattle.image.specs.declared.images.Image.{Image}
-use Rattle.image.specs.Meaning.{program}
+use Rattle.image.specs.Meaning.{program, handler_in}
 use Rattle.layout.specs.declared.layouts.Layout.{Layout}
 use Rattle.layout.specs.Meaning.{sets_in}
 use Rattle.stepper.specs.View.{world_of}
@@ -13,7 +13,7 @@ use Rattle.pipeline.proofs.Sounds.{succession_sound}
 
 pub never_parted : (image : Image) (layout : Layout) → NeverParted image layout
 never_parted image layout other table table' alike =
-    agreement table table' (program image) image.head.handler alike (sets_in layout) (sets_in other) (read_laid layout) (read_laid other)
+    agreement table table' (program image) (handler_in image) alike (sets_in layout) (sets_in other) (read_laid layout) (read_laid other)
 
 pub always_drains : (image : Image) (layout : Layout) → All (placed (sets_in layout)) (program image) → AlwaysDrains image layout
 always_drains image layout fit table first P words rs s runs =

@@ -7,6 +7,8 @@ use Rattle.pipes.specs.Running.{Run, run_of}
 use Rattle.pipeline.specs.declared.pipelines.Pipeline.{Pipeline}
 use Rattle.pipeline.specs.Views.{pipes_in, stages_in, world_in}
 
+-- a move of this kind and place, accepted or turned away: its answer, and the pipes and the words
+-- that it leaves
 abbrev pub move_made : Table → Pipeline → List ℕ → ℕ → ℕ → Moved
 move_made table p words kind place = moved (world_in p table) (stages_in p) (pipes_in p) words kind place
 

@@ -21,7 +21,7 @@ module _ (p : Pipeline) where
   abbrev pub pipes_in : Pipes
   pipes_in = p.pipes
 
-  -- which operations each of its stages can execute
+  -- its stages, each by the set of operations that it can execute
   abbrev pub stages_in : List ℕ
   stages_in = sets_in layout_in
 
@@ -29,6 +29,7 @@ module _ (p : Pipeline) where
   abbrev pub world_in : Table → World
   world_in table = world_of table image_in
 
+  -- what stands in a stage; none at or past the top
   abbrev pub slot_of : ℕ → Option Stage
   slot_of s = cond (nat_lt s (length stages_in)) (Some (stage_at pipes_in s)) None
 

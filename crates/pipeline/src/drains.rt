@@ -50,10 +50,10 @@ impl<'a> Pipeline<'a> {
             let answer = self.make(next, unit, memory);
             let _ = log.add(next);
             moves += 1;
-            if let Ok(given) = answer {
-                if let Some(retirement) = given {
-                    return Ok(Drain { moves, retirement });
-                }
+            match answer {
+                Ok(Some(retirement)) => return Ok(Drain { moves, retirement }),
+                Ok(None) => {}
+                Err(_) => unreachable!(),
             }
         }
     }

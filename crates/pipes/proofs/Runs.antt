@@ -18,7 +18,7 @@ use Rattle.pipes.specs.declared.state.Pipes.{Pipes}
 use Rattle.pipes.specs.Questions.{refusal_of}
 use Rattle.pipes.specs.Moving.{Left, Moved, moved_by, moved, accepted}
 use Rattle.pipes.specs.Running.{Tally, counted, is_retire, retirements, ran_from, ran, figures_of, figures_after, records_of, Run, finished, not_begun, run_of, RunsTo}
-use Rattle.pipes.proofs.Logged.{logs_none, logs_room, logs_then, logs_nothing}
+use Rattle.bounded_log.proofs.Logged.{logs_none, logs_room, logs_then, logs_nothing}
 
 -- only RETIRE gives a record
 given_by : (o : Option MoveRefusal) (P : Pipes) (words : List ℕ) (left : Left) (r : Retirement) → Ok (Some r) ≡ (moved_by o P words left).answer → left.retirement ≡ Some r

@@ -77,7 +77,8 @@ place_right n Drop place = place == 0
 abbrev pub asks : Bool → MoveRefusal → Option MoveRefusal → Option MoveRefusal
 asks answer refusal next = cond answer next (Some refusal)
 
--- What each kind is asked, of the one or two stages that it names; of the numbers, a stage's own.
+-- What each kind is asked, of the one or two stages that it looks at; a stage's number is handed in
+-- where the answer depends on it.
 abbrev pub ask_fetch : Option ℕ → Stage → Option MoveRefusal
 ask_fetch fetch bottom = asks (is_open fetch) FetchClosed (asks (not (is_some bottom.packet)) Occupied None)
 

@@ -16,6 +16,7 @@ use Rattle.pipes.specs.Moving.{Moved, moved}
 abbrev pub run_number : RunRefusal → ℕ
 run_number ShortLog = 27
 
+-- is it a RETIRE, the kind of number 7
 abbrev pub is_retire : Move → Bool
 is_retire m = number_of m.kind == 7
 

@@ -1,4 +1,4 @@
-//! The two pipes as plain data, and what every move makes of them.
+//! The two pipes as plain data, and the definitions of what every move makes of them.
 #![tactic(auto)]
 
 pub use ables::some_able;

@@ -25,6 +25,7 @@ record_of bytes =
       literal = four_at bytes 4;
     }
 
+-- how the four fields are used, in their order
 abbrev pub uses : FieldUse → FieldUse → FieldUse → FieldUse → Shape
 uses destination first second literal = record { destination = destination; first = first; second = second; literal = literal }
 

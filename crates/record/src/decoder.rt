@@ -59,39 +59,31 @@ fn shape_of(instruction: Instruction) -> Shape
     }
 }
 
+impl From<[u8; 8]> for Record {
+    ghost from_gives = { λ bytes made. made ≡ record_of bytes };
+
+    /// The fields in the order of their bytes.
+    fn from(bytes: [u8; 8]) -> Record {
+        let [operation, destination, first, second, l3, l2, l1, l0] = bytes;
+        Record {
+            operation,
+            destination,
+            first,
+            second,
+            literal: u32::from_be_bytes([l3, l2, l1, l0]),
+        }
+    }
+}
+
 impl Record {
     /// The record in the first eight bytes, and the bytes after it; none where there are fewer.
-    #[tactic(auto, using(std::proofs::lemmas::List::take_rest))]
     pub fn split(bytes: &[u8]) -> Option<(Record, &[u8])>
         ensures { MatchOption result (length bytes.now < 8)
             (λ p. (8 ≤ length bytes.now) × (p.0 ≡ record_of bytes.now) ×
             (p.1.now ≡ drop 8 bytes.now)) }
     {
-        let [
-            operation,
-            destination,
-            first,
-            second,
-            l3,
-            l2,
-            l1,
-            l0,
-            rest @ ..,
-        ] = bytes
-        else {
-            return None;
-        };
-        let literal = u32::from_be_bytes([*l3, *l2, *l1, *l0]);
-        Some((
-            Record {
-                operation: *operation,
-                destination: *destination,
-                first: *first,
-                second: *second,
-                literal,
-            },
-            rest,
-        ))
+        let (record, rest) = bytes.split_first_chunk::<8>()?;
+        Some((Record::from(*record), rest))
     }
 
     /// Is each field a use of its shape? If not, the first that is none: first those out of range,
@@ -139,7 +131,8 @@ impl Record {
     /// where the operation is not in the table.
     fn built(self) -> Option<Instruction>
         ensures { MatchOption result (shape_of self.operation self.second ≡ None)
-            (λ i. (i ≡ built_of self) × (shape_of self.operation self.second ≡ Some (shape_for i))) }
+            (λ i. (i ≡ built_of self) ×
+            (shape_of self.operation self.second ≡ Some (shape_for i))) }
     {
         let Record { literal, .. } = self;
         let destination = Register::named(self.destination);

@@ -3,6 +3,7 @@ ghost use Rattle.record.specs.Faults.{field_offset, record_number, record_offset
 
 use crate::faults::{Field, RecordFault};
 
+// A cast: a field's case has the number of the byte at which it begins.
 impl Field {
     /// Where the field begins in its record.
     pub fn offset(self) -> u8

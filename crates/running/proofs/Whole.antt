@@ -23,12 +23,12 @@ use Rattle.pipeline.specs.declared.pipelines.Pipeline.{Pipeline}
 use Rattle.pipeline.specs.Calls.{list_run}
 use Rattle.pipeline.specs.Views.{image_in, layout_in, pipes_in, stages_in}
 use Rattle.pipes.specs.Running.{Run, run_of, not_begun, RunsTo}
-use Rattle.pipes.proofs.Logged.{logs_none}
+use Rattle.bounded_log.proofs.Logged.{logs_none}
 use Rattle.pipes.proofs.Runs.{run_refused}
 use Rattle.running.specs.declared.answers.JobRun.{JobRun}
 use Rattle.running.specs.declared.answers.JobRunFault.{JobRunFault}
 use Rattle.running.specs.declared.answers.JobRunFault.TheVariants as fault
-use Rattle.running.specs.Jobs.{run_in, world_in, RunsIf, JobRuns, kept}
+use Rattle.running.specs.Jobs.{run_in, world_from, RunsIf, JobRuns, kept}
 
 -- an error that is told is the answer
 err_is : {A B : Type 0} (r : Result A B) (x : B) → IsErrAnd r (λ e. e ≡ x) → r ≡ Err x
@@ -103,7 +103,7 @@ module _ (table : Table) (known : ℕ) (words words' : List ℕ) (log log' : Log
   stopped (Ok told) f h o =
       let same = ap R h.0 in
       let answer = o.value ∙ ap (λ (x : Run). x.answer) same in
-      let none : R told ≡ not_begun fresh (take 65536 words) = run_refused (world_in table told) told.sets fresh (take 65536 words) told.moves (room log) f answer in
+      let none : R told ≡ not_begun fresh (take 65536 words) = run_refused (world_from table told) told.sets fresh (take 65536 words) told.moves (room log) f answer in
       record {
         value = subst (λ (a : Result RunFigures RunRefusal). RunsIf known told (R told) a (Err (fault.Run f))) answer (refl, h.1);
         lent = together (take 65536 words) (o.words ∙ ap (λ (x : Run). x.words) (same ∙ none)) ∙ take-append-drop 65536 words;

@@ -15,13 +15,13 @@ use Rattle.running.specs.declared.answers.JobRun.{JobRun}
 use Rattle.running.specs.declared.answers.JobRunFault.{JobRunFault}
 use Rattle.running.specs.declared.answers.JobRunFault.TheVariants.{Check, Run}
 
-abbrev pub world_in : Table → Contents → World
-world_in table job = record { table = table; program = job.program; handler = job.handler }
+abbrev pub world_from : Table → Contents → World
+world_from table job = record { table = table; program = job.program; handler = job.handler }
 
 -- A job's moves on its fresh pipeline, over the first 65,536 of the words, with so many free log
 -- places.
 abbrev pub run_in : Table → List ℕ → ℕ → Contents → pipes.Run
-run_in table words room job = pipes.run_of (world_in table job) job.sets fresh (take 65536 words) job.moves room
+run_in table words room job = pipes.run_of (world_from table job) job.sets fresh (take 65536 words) job.moves room
 
 module _ (known : ℕ) (job : Contents) (R : pipes.Run) where
   -- a job that fits is run, or refused for want of log places; one that does not fit is refused so

@@ -19,8 +19,8 @@ use unit::Unit;
 
 /// Runs moves over lent words: the first 65,536 of them are the memory, and the others stay.
 // A function of its own, so that what the words hold when the loan ends has a name.
-fn run_over<'a, U: Unit>(
-    pipeline: &mut Pipeline<'a>,
+fn run_over<U: Unit>(
+    pipeline: &mut Pipeline<'_>,
     moves: &MoveList<'_>,
     unit: &U,
     words: &mut [u32],

@@ -4,13 +4,13 @@ use Rattle.bounded_log.specs.declared.places.Log.{Log}
 use Rattle.bounded_log.specs.Room.{room, Logs}
 use Rattle.effect.specs.declared.actions.Retirement.{Retirement}
 use Rattle.image.specs.declared.images.Image.{Image}
-use Rattle.image.specs.Meaning.{program}
+use Rattle.image.specs.Meaning.{program, handler_in}
 use Rattle.effect.specs.Effects.{Table}
 use Rattle.stepper.specs.declared.state.Stepper.{Stepper}
 use Rattle.stepper.specs.Machine.{World, State, execution, records}
 
 abbrev pub world_of : Table → Image → World
-world_of table image = record { table = table; program = program image; handler = image.head.handler }
+world_of table image = record { table = table; program = program image; handler = handler_in image }
 
 module _ (stepper : Stepper) where
   abbrev pub image_in : Image
@@ -42,6 +42,7 @@ module _ (table : Table) (before : Stepper) (words : List ℕ) (log : Log Retire
   abbrev pub run_records : List Retirement
   run_records = records (world_of table (image_in before)) (room log) (view before words)
 
+-- this many steps, this log, this stepper and these words are what the run leaves
 pub record Ran (table : Table) (before after : Stepper) (words words' : List ℕ) (log log' : Log Retirement) (steps : ℕ) : Type 0 where
   pub made : steps ≡ length (run_records table before words log)
   pub logs : Logs log log' (run_records table before words log)

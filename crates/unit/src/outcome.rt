@@ -1,5 +1,6 @@
 /// Why a unit gives no word: the fault's number, from 1 to 15.
-// The range is promised by `Unit::ask`, the one call that answers faults.
+// `Unit::ask`, the one call that answers faults, promises the range: as a part of the type, each
+// definition that builds a fault would have to carry a proof of it.
 #[derive(Clone, Copy, Debug, PartialEq)]
 pub struct Fault {
     pub number: u8,

@@ -5,6 +5,7 @@ use Rattle.pipes.specs.Questions.{stage_at}
 use Rattle.pipes.proofs.Stays.{refused_stays, others_stay}
 use Rattle.pipes.specs.Moving.{Moved}
 use Rattle.pipeline.proofs.Sounds.{move_sound}
+use Rattle.pipeline.proofs.Turns.{same_machine}
 use Rattle.pipeline.proofs.pipelines.Pipeline.make_move.Goals as goal
 
 pub returns : goal.returns
@@ -17,7 +18,7 @@ returns g c =
     let pipes = ap (λ (x : Moved). x.pipes) made.made in
     record {
       made = made.made;
-      machine = record { image = refl; layout = refl };
+      machine = same_machine refl refl;
       refused = λ f e.
           let stays = refused_stays W sets before.pipes words c.args.kind c.args.place f (sym (ap (λ (x : Moved). x.answer) made.made) ∙ e) in
           (pipes ∙ stays.0, ap (λ (x : Moved). x.words) made.made ∙ stays.1);

@@ -4,17 +4,17 @@ use Rattle.moves.specs.Meaning.{moves_in}
 use Rattle.pipes.specs.Running.{retirements}
 use Rattle.pipes.proofs.Runs.{underway_none, underway_free, underway_more, runs_over, runs_refused}
 use Rattle.pipeline.specs.Views.{pipes_in, stages_in, world_in}
-use Rattle.pipeline.proofs.Turns.{machine_then, turned}
+use Rattle.pipeline.proofs.Turns.{same_machine, machine_then, turned}
 use Rattle.pipeline.proofs.pipelines.Pipeline.run.Goals as goal
 
 pub loop-next-init : goal.loop-next-init
 loop-next-init g c =
     let before = c.args.self.now in
     let words = g.M.Readable.words c.args.memory.now in
-    let free : retirements (moves_in c.args.moves.now) ≤ room c.args.log.now = omega (arith, c.retirements.ensures, c.free.ensures.value) in
+    let free : retirements (moves_in c.args.moves.now) ≤ room c.args.log.now = omega (arith, c.retirements.ensures, c.free.ensures) in
     let all = c.into_iter-next-iterator.ensures.into_iter_gives.0 in
-    let none = underway_none {W = world_in before (g.U.Unit.table c.args.unit.now)} {sets = stages_in before} {P = pipes_in before} {words = words} free c.free.ensures.same in
-    (rw all none, record { image = refl; layout = refl }, refl)
+    let none = underway_none {W = world_in before (g.U.Unit.table c.args.unit.now)} {sets = stages_in before} {P = pipes_in before} {words = words} free refl in
+    (rw all none, same_machine refl refl, refl)
 
 pub loop-next-preserved : goal.loop-next-preserved
 loop-next-preserved g c =
@@ -40,13 +40,13 @@ note-requires-clause-free g c =
 
 pub returns-then-free-retirements : goal.returns-then-free-retirements
 returns-then-free-retirements g c =
-    let short : room c.args.log.now < retirements (moves_in c.args.moves.now) = omega (arith, c.free.ensures.value, c.retirements.ensures) in
+    let short : room c.args.log.now < retirements (moves_in c.args.moves.now) = omega (arith, c.free.ensures, c.retirements.ensures) in
     let before = c.args.self.now in
-    let refused = runs_refused (world_in before (g.U.Unit.table c.args.unit.now)) (stages_in before) (pipes_in before) (g.M.Readable.words c.args.memory.now) (moves_in c.args.moves.now) short c.free.ensures.same in
-    record { ran = refused; machine = record { image = refl; layout = refl }; kept = refl }
+    let refused = runs_refused (world_in before (g.U.Unit.table c.args.unit.now)) (stages_in before) (pipes_in before) (g.M.Readable.words c.args.memory.now) (moves_in c.args.moves.now) short refl in
+    record { ran = refused; machine = same_machine refl refl; kept = refl }
 
 pub returns : goal.returns
 returns g c =
     let inv = c.loop-next.invariant in
-    let enough : retirements (moves_in c.args.moves.now) ≤ room c.args.log.now = omega (arith, c.free.ensures.value, c.retirements.ensures) in
+    let enough : retirements (moves_in c.args.moves.now) ≤ room c.args.log.now = omega (arith, c.free.ensures, c.retirements.ensures) in
     record { ran = runs_over enough c.in-None.ensures.steps.0 inv.0; machine = inv.1; kept = inv.2 }
