@@ -6,7 +6,7 @@ use fields::Refusal;
 use std::io::Read;
 use unit::WholeNumber;
 
-// How much this program takes. The three programs are alike, but each has its own call and its own
+// How much this program takes. The programs are alike, but each has its own call and its own
 // first line, and no program can call into another.
 const MOST_BYTES: u64 = 65536;
 

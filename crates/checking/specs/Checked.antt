@@ -3,8 +3,9 @@ use Rattle.std.specs.Prelude.{◌≡◌, ℕ, length, Ok, Err, Result}
 use Rattle.fields.specs.declared.refusal.Refusal.{Refusal}
 use Rattle.job.specs.declared.faults.JobFault.{JobFault}
 use Rattle.job.specs.Faults.{job_refusal}
-use Rattle.job.specs.Meaning.{told}
-use Rattle.job.specs.Reading.{Contents}
+use Rattle.job.specs.Meaning.{pair_told, told}
+use Rattle.job.specs.Reading.{Contents, Core}
+use Rattle.fit.specs.declared.pairs.Fitted.{Fitted}
 use Rattle.fit.specs.Fitting.{All, placed, heard, Unfit, fit_refusal}
 use Rattle.checking.specs.declared.answers.JobFigures.{JobFigures}
 use Rattle.checking.specs.declared.answers.CheckFault.{CheckFault}
@@ -43,3 +44,17 @@ FittedAs known (Err fault) (Ok fitted) = ⊥
 FittedAs known (Err fault) (Err refused) = refused ≡ Job fault
 FittedAs known (Ok job) (Ok fitted) = (contents_of fitted ≡ job) × Fitting known job
 FittedAs known (Ok job) (Err refused) = Misfit known job refused
+
+-- the same of a core: it fits, or why it does not
+abbrev pub CoreFitting : ℕ → Core → Type 0
+CoreFitting known core = All (placed core.sets) core.program × All (heard known) core.program
+
+abbrev pub CoreMisfit : ℕ → Core → CheckFault → Type 0
+CoreMisfit known core (Job fault) = ⊥
+CoreMisfit known core (Fit fault) = Unfit core.sets known core.program fault
+
+abbrev pub CoreFittedAs : ℕ → Result Core JobFault → Result Fitted CheckFault → Type 0
+CoreFittedAs known (Err fault) (Ok fitted) = ⊥
+CoreFittedAs known (Err fault) (Err refused) = refused ≡ Job fault
+CoreFittedAs known (Ok core) (Ok fitted) = (pair_told fitted.image fitted.layout ≡ core) × CoreFitting known core
+CoreFittedAs known (Ok core) (Err refused) = CoreMisfit known core refused

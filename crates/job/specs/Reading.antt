@@ -56,3 +56,29 @@ from_image total (Err fault) = Err fault
 -- the job that the bytes are, or the first question whose answer is no
 abbrev pub job_of : List ℕ → Result Contents JobFault
 job_of bytes = from_image (length bytes) (image_step (image_of bytes))
+
+-- what reading a core tells
+pub record Core : Type 0 where
+  pub version : ℕ
+  pub handler : ℕ
+  pub program : List Instruction
+  pub sets : List ℕ
+
+abbrev pub paired : image.Contents → List ℕ → Core
+paired i sets = record { version = i.version; handler = i.handler; program = i.program; sets = sets }
+
+-- an image and a layout behind which so much is left
+abbrev pub ended : ℕ → Core → List ℕ → Result Core JobFault
+ended total core rest = cond (length rest == 0) (Ok core) (Err (LeftOver (begin_of total rest)))
+
+abbrev pub core_after : ℕ → image.Contents → Result layout.Contents JobFault → Result Core JobFault
+core_after total i (Ok l) = ended total (paired i l.sets) l.rest
+core_after total i (Err fault) = Err fault
+
+abbrev pub core_from : ℕ → Result image.Contents JobFault → Result Core JobFault
+core_from total (Ok i) = core_after total i (layout_step (begin_of total i.rest) (layout_of i.rest))
+core_from total (Err fault) = Err fault
+
+-- the core that the bytes are, or the first question whose answer is no
+abbrev pub core_of : List ℕ → Result Core JobFault
+core_of bytes = core_from (length bytes) (image_step (image_of bytes))

@@ -9,6 +9,8 @@ use Rattle.job.specs.declared.faults.JobFault.{JobFault}
 use Rattle.job.specs.declared.states.JobBytes.{JobBytes}
 use Rattle.job.specs.declared.states.JobWithImage.{JobWithImage}
 use Rattle.job.specs.declared.states.JobWithLayout.{JobWithLayout}
+use Rattle.job.specs.Meaning.{pair_told}
+use Rattle.job.specs.Reading as reading
 use Rattle.job.specs.Reading.{begin_of, image_step, layout_step, moves_step}
 
 -- the bytes of a job, none of which is read
@@ -47,3 +49,7 @@ layout_next s = layout_step (begin_of (image_total s) (image_left s)) (layout.la
 
 abbrev pub moves_next : JobWithLayout → Result moves.Contents JobFault
 moves_next s = moves_step (layout_total s) (begin_of (layout_total s) (layout_left s)) (moves.moves_of (layout_left s))
+
+-- what ending behind the layout answers
+abbrev pub core_next : JobWithLayout → Result reading.Core JobFault
+core_next s = reading.ended (layout_total s) (pair_told (layout_image s) (layout_read s)) (layout_left s)

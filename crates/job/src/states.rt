@@ -25,6 +25,13 @@ pub struct JobWithLayout<'a> {
     pub(crate) rest: &'a [u8],
 }
 
+/// A core: an image and a layout in a row, with no moves behind them.
+#[derive(Clone, Copy)]
+pub struct Core<'a> {
+    pub image: Image<'a>,
+    pub layout: Layout<'a>,
+}
+
 /// A job that is read whole.
 #[derive(Clone, Copy)]
 pub struct Job<'a> {

@@ -2,11 +2,11 @@ ghost use Rattle.std.specs.Prelude.{◌≡◌, length, Ok, Err, IfOk};
 ghost use Rattle.image.specs.Meaning.{told as imageTold};
 ghost use Rattle.layout.specs.Meaning.{told as layoutTold};
 ghost use Rattle.job.specs.Reading.{begin_of};
-ghost use Rattle.job.specs.Meaning.{whole_told};
-ghost use Rattle.job.specs.States.{bytes_in, image_total, image_read, image_left, layout_total, layout_image, layout_read, layout_left, image_next, layout_next, moves_next};
+ghost use Rattle.job.specs.Meaning.{core_told, whole_told};
+ghost use Rattle.job.specs.States.{bytes_in, image_total, image_read, image_left, layout_total, layout_image, layout_read, layout_left, image_next, layout_next, moves_next, core_next};
 
 use crate::faults::JobFault;
-use crate::states::{Job, JobBytes, JobWithImage, JobWithLayout};
+use crate::states::{Core, Job, JobBytes, JobWithImage, JobWithLayout};
 use image::read_image;
 use layout::read_layout;
 use moves::read_moves;
@@ -97,5 +97,25 @@ impl<'a> JobWithLayout<'a> {
             layout,
             moves,
         })
+    }
+
+    /// Ends here: nothing may be left.
+    pub fn without_moves(self) -> Result<Core<'a>, JobFault>
+        ensures value { elim result [
+          | Ok core ↦ core_next self.entry ≡ Ok (core_told core)
+          | Err fault ↦ core_next self.entry ≡ Err fault
+        ] }
+    {
+        let JobWithLayout {
+            length,
+            image,
+            layout,
+            rest,
+        } = self;
+        if !rest.is_empty() {
+            let at = begin_of(length, rest);
+            return Err(JobFault::LeftOver { at });
+        }
+        Ok(Core { image, layout })
     }
 }

@@ -2,6 +2,8 @@
 #![tactic(auto)]
 
 #[cfg(test)]
+mod core_tests;
+#[cfg(test)]
 mod fit_tests;
 #[cfg(test)]
 mod job_tests;

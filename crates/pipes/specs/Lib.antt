@@ -3,3 +3,4 @@ pub mod Moving
 pub mod Running
 pub mod Laws
 pub mod Draining
+pub mod Lines

@@ -7,5 +7,6 @@ pub use state::Pipes;
 
 mod ables;
 mod answers;
+mod lines;
 mod state;
 mod telling;

@@ -1,0 +1,3 @@
+pub mod Going
+pub mod Whole
+pub mod Edge

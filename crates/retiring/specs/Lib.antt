@@ -1,0 +1,4 @@
+pub mod Figures
+pub mod Drains
+pub mod Cores
+pub mod Edges
