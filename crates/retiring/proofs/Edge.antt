@@ -1,5 +1,5 @@
 -- Each edge, by computation.
-use Rattle.std.proofs.Common.{◌≡◌, refl, arith}
+use Rattle.std.proofs.Common.{refl, arith}
 use Rattle.std.proofs.lemmas.Bool.Decides.{nat_tests}
 use Rattle.retiring.specs.Edges.{Edges}
 

@@ -30,15 +30,11 @@ use Rattle.agreement.specs.Statement.{Sequential}
 use Rattle.pipeline.specs.declared.pipelines.Pipeline.{Pipeline}
 use Rattle.pipeline.specs.Theorem.{NeverParted}
 use Rattle.pipeline.specs.Views.{image_in, layout_in, pipes_in, stages_in, world_in}
+use Rattle.checking.proofs.Errors.{err_is}
 use Rattle.retiring.specs.declared.answers.CoreDrained.{CoreDrained}
 use Rattle.retiring.specs.Drains.{records_of, most_of, Sequence, DrainsOn}
 use Rattle.retiring.specs.Cores.{CoreDrains, CoreDrainsOn}
 use Rattle.retiring.proofs.Going.{most_more}
-
--- an error that is told is the answer
-err_is : {A B : Type 0} (r : Result A B) (x : B) → IsErrAnd r (λ e. e ≡ x) → r ≡ Err x
-err_is (Ok a) x h = elim h [ ]
-err_is (Err e) x h = ap Err h
 
 -- a core that is refused
 module _ (table : Table) (known : ℕ) (words : List ℕ) (log : Log Drain) where

@@ -7,7 +7,7 @@ use Rattle.job.specs.declared.faults.JobFault.{JobFault}
 use Rattle.job.specs.Reading.{Core}
 use Rattle.checking.specs.declared.answers.CheckFault.{CheckFault}
 use Rattle.checking.specs.declared.answers.CheckFault.TheVariants.{Job}
-use Rattle.checking.specs.Checked.{CoreFitting, CoreMisfit}
+use Rattle.checking.specs.Checked.{Fits, Misfits}
 use Rattle.stepper.specs.Machine.{World, State, start, execution, records}
 use Rattle.pipes.specs.declared.answers.Drain.{Drain}
 use Rattle.pipes.specs.declared.state.Pipes.{Pipes}
@@ -44,7 +44,7 @@ pub record CoreDrainsOn (table : Table) (core : Core) (words words' : List ℕ) 
 
 -- the questions of a core first, then those of fit; a refused core leaves words and log as they were
 abbrev pub CoreDrains : Table → ℕ → Result Core JobFault → List ℕ → List ℕ → Log Drain → Log Drain → Result CoreDrained CheckFault → Type 0
-CoreDrains table known (Ok core) words words' old new (Ok answer) = CoreDrainsOn table core words words' old new answer × CoreFitting known core
-CoreDrains table known (Ok core) words words' old new (Err refused) = CoreMisfit known core refused × (words' ≡ words) × (new ≡ old)
+CoreDrains table known (Ok core) words words' old new (Ok answer) = CoreDrainsOn table core words words' old new answer × Fits known core.sets core.program
+CoreDrains table known (Ok core) words words' old new (Err refused) = Misfits known core.sets core.program refused × (words' ≡ words) × (new ≡ old)
 CoreDrains table known (Err fault) words words' old new (Ok answer) = ⊥
 CoreDrains table known (Err fault) words words' old new (Err refused) = (refused ≡ Job fault) × (words' ≡ words) × (new ≡ old)

@@ -25,15 +25,11 @@ use Rattle.pipeline.specs.Views.{image_in, layout_in, pipes_in, stages_in}
 use Rattle.pipes.specs.Running.{Run, run_of, not_begun, RunsTo}
 use Rattle.bounded_log.proofs.Logged.{logs_none}
 use Rattle.pipes.proofs.Runs.{run_refused}
+use Rattle.checking.proofs.Errors.{err_is}
 use Rattle.running.specs.declared.answers.JobRun.{JobRun}
 use Rattle.running.specs.declared.answers.JobRunFault.{JobRunFault}
 use Rattle.running.specs.declared.answers.JobRunFault.TheVariants as fault
 use Rattle.running.specs.Jobs.{run_in, world_from, RunsIf, JobRuns, kept}
-
--- an error that is told is the answer
-err_is : {A B : Type 0} (r : Result A B) (x : B) → IsErrAnd r (λ e. e ≡ x) → r ≡ Err x
-err_is (Ok a) x h = elim h [ ]
-err_is (Err e) x h = ap Err h
 
 -- the clauses of `run_job`
 pub record Promised (table : Table) (known : ℕ) (words words' : List ℕ) (log log' : Log Retirement) (read : Result Contents JobFault) (r : Result JobRun JobRunFault) : Type 0 where
