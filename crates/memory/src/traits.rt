@@ -8,14 +8,15 @@ use crate::access::AccessFault;
 pub trait Readable {
     ghost words: { Self → List ℕ };
 
+    // Each implementation gives the proof that its list is short enough. No law, so that clauses
+    // can name it, and so that it is known behind a `&dyn Readable`.
+    ghost short: { (x : Self) → length (words x) ≤ 65536 };
+
     fn size(&self) -> u32
         ensures { result ≡ length (words self.now) };
 
     fn read(&self, address: u32) -> Result<u32, AccessFault>
         ensures { result ≡ read_of (words self.now) address };
-
-    // A law: each implementation proves that its list is short enough.
-    ghost short: { (x : Self) → length (words x) ≤ 65536 };
 }
 
 /// Readable words that can also be written.
