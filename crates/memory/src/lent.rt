@@ -1,6 +1,6 @@
 ghost use Rattle.std.specs.Prelude.{◌≡◌, length};
-ghost use Rattle.std.proofs.Common.{arith, length-take};
 ghost use Rattle.memory.specs.Lent.{lent_in, lent_root, addressed_in, kept_of_lent};
+ghost use Rattle.memory.specs.Short.{take_short};
 
 use crate::access::{AccessFault, word_at};
 use crate::traits::{Memory, Readable};
@@ -31,7 +31,7 @@ impl<'a> LentWords<'a> {
 impl<'a> Readable for LentWords<'a> {
     ghost words = { addressed_in };
 
-    ghost short = { λ s. Prim.omega (arith, length-take 65536 (lent_in s)) };
+    ghost short = { λ s. take_short (lent_in s) };
 
     fn size(&self) -> u32 {
         self.addressed().len() as u32

@@ -8,7 +8,7 @@ use crate::traits::{Memory, Readable};
 pub struct OwnWords {
     cells: [u32; 64],
 
-    // To the law `short` an array is a list of any length, so this says which.
+    // To `short` an array is a list of any length, so this says which.
     ghost full: { length cells ≡ 64 },
 }
 
@@ -25,12 +25,12 @@ impl OwnWords {
 }
 
 impl Readable for OwnWords {
-    ghost use Rattle.std.proofs.Common.{arith};
     ghost use Rattle.memory.specs.Own.{own_in};
+    ghost use Rattle.memory.specs.Short.{exactly_short};
 
     ghost words = { own_in };
 
-    ghost short = { λ s. Prim.omega (arith, s.full) };
+    ghost short = { λ s. exactly_short (own_in s) s.full };
 
     fn size(&self) -> u32 {
         self.cells.len() as u32

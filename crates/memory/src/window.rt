@@ -1,9 +1,8 @@
 ghost use Rattle.std.specs.Prelude.{◌≡◌, ◌+◌, length, nat_le};
-ghost use Rattle.std.proofs.Common.{rules};
-ghost use Rattle.std.proofs.lemmas.Grind.{common_steps};
 ghost use Rattle.memory.specs.Words.{write_of, written};
 ghost use Rattle.memory.specs.Windows.{check_of, window_over, memory_below};
 ghost use Rattle.memory.specs.Windows.{words_below, seen_through, written_through, kept_through};
+ghost use Rattle.memory.specs.Short.{window_short};
 
 use crate::access::{AccessFault, WindowFault};
 use crate::traits::{Memory, Readable};
@@ -56,7 +55,8 @@ impl<M: Memory> Window<M> {
 impl<M: Memory> Readable for Window<M> {
     ghost words = { seen_through M.Readable.words };
 
-    ghost short = { λ s. Prim.search (rules, common_steps) };
+    ghost short = { λ s. window_short (words_below M.Readable.words s) s.base s.size
+        (M.Readable.short (memory_below s)) };
 
     fn size(&self) -> u32 {
         if fits(&self.below, self.base, self.size) {

@@ -1,5 +1,6 @@
 -- Every memory has at most 65,536 words.
-use Rattle.std.proofs.Common.{◌≡◌, ℕ, ◌+◌, ◌≤◌, Bool, true, false, cond, List, [], length, take, drop, nat_le, arith, length-take, length-drop}
+use Rattle.std.specs.Prelude.{◌≡◌, ℕ, ◌+◌, ◌≤◌, Bool, true, false, cond, List, [], length, take, drop, nat_le}
+use Rattle.std.proofs.Common.{arith, length-take, length-drop}
 use Rattle.memory.specs.Windows.{window_of}
 
 pub exactly_short : (ws : List ℕ) → length ws ≡ 64 → length ws ≤ 65536
