@@ -2,7 +2,7 @@
 #![tactic(auto)]
 
 pub use faults::{LogFault, WriteFault};
-pub use lines::Line;
+pub use lines::{Line, PrintedLine};
 pub use places::Log;
 
 mod faults;

@@ -3,7 +3,7 @@ ghost use Rattle.bounded_log.specs.Lines.{Writes, numbered};
 ghost use Rattle.bounded_log.specs.Room.{entries_in};
 
 use crate::faults::WriteFault;
-use crate::lines::Line;
+use crate::lines::{Line, PrintedLine};
 use crate::places::Log;
 use std::alloc::Global;
 use std::fmt;
@@ -27,7 +27,7 @@ impl<'a, T: Copy + Line> Log<'a, T> {
 }
 
 /// Every entry on a line of its own behind its number, from 1.
-impl<T: Copy + Line> fmt::Display for Log<'_, T> {
+impl<T: Copy + PrintedLine> fmt::Display for Log<'_, T> {
     ghost output = { λ log. Some (numbered T.Line.numbers 1 (entries_in log)) };
 
     fn fmt<W: fmt::Write>(&self, f: &mut fmt::Formatter<W>) -> fmt::Result {

@@ -3,7 +3,8 @@ ghost use Rattle.bounded_log.specs.Lines.{line_of};
 ghost use Rattle.effect.specs.Retirements.{kind_of, target_of, word_of, numbers_of};
 
 use crate::actions::{Action, Retirement};
-use bounded_log::Line;
+use bounded_log::{Line, PrintedLine};
+use std::alloc::{AllocError, Global};
 use std::fmt;
 
 // Each number of a record is a question of its own, so each has its match.
@@ -62,5 +63,11 @@ impl fmt::Display for Retirement {
 impl Line for Retirement {
     ghost numbers = { numbers_of };
 
+    fn line(&self, heap: Global) -> Result<String, AllocError> {
+        self.to_string(heap)
+    }
+}
+
+impl PrintedLine for Retirement {
     ghost written = { λ _. refl };
 }

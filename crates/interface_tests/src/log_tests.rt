@@ -1,7 +1,31 @@
 //! The log: full, empty, cleared, and its lines.
-use bounded_log::{Log, LogFault};
+ghost use Rattle.std.specs.Prelude.{[], ◌∷◌};
+
+use bounded_log::{Line, Log, LogFault};
 use effect::{Action, Retirement};
+use std::alloc::{AllocError, Global};
 use std::test::Fail;
+
+/// A record that has a line and is not printed.
+#[derive(Clone, Copy)]
+struct Mark {
+    row: u32,
+    column: u8,
+}
+
+impl Line for Mark {
+    ghost numbers = { λ mark. mark.row ∷ (mark.column ∷ []) };
+
+    fn line(&self, heap: Global) -> Result<String, AllocError> {
+        let row = self.row;
+        let column = self.column;
+        format!(in heap; "{row} {column}")
+    }
+}
+
+fn line_behind(record: &dyn Line, heap: Global) -> Result<String, AllocError> {
+    record.line(heap)
+}
 
 #[test]
 fn no_places(rt: HostRuntime) {
@@ -76,6 +100,24 @@ fn lines(rt: HostRuntime) -> Result<(), Fail> {
         "7: 70000 2 10 4294967295",
         "a refusal leaves the text"
     );
+    Ok(())
+}
+
+#[test]
+fn lines_of_an_own_record(rt: HostRuntime) -> Result<(), Fail> {
+    let heap = rt.alloc();
+    let mark = Mark {
+        row: 70000,
+        column: 9,
+    };
+    let mut places = [mark; 1];
+    let mut log = Log::new(&mut places);
+    assert!(rt; log.add(mark).is_ok());
+    let mut text = String::from_str(heap, "at ")?;
+    assert!(rt; log.write_entry(0, heap, &mut text).is_ok());
+    assert_eq!(rt; text.as_str(), "at 70000 9", "a line, and no other text");
+    let line = line_behind(&mark, heap)?;
+    assert_eq!(rt; line.as_str(), "70000 9", "the line behind a pointer");
     Ok(())
 }
 

@@ -3,7 +3,8 @@ ghost use Rattle.bounded_log.specs.Lines.{line_of};
 ghost use Rattle.moves.specs.Lines.{move_numbers};
 
 use crate::kinds::Move;
-use bounded_log::Line;
+use bounded_log::{Line, PrintedLine};
+use std::alloc::{AllocError, Global};
 use std::fmt;
 
 impl fmt::Display for Move {
@@ -19,5 +20,11 @@ impl fmt::Display for Move {
 impl Line for Move {
     ghost numbers = { move_numbers };
 
+    fn line(&self, heap: Global) -> Result<String, AllocError> {
+        self.to_string(heap)
+    }
+}
+
+impl PrintedLine for Move {
     ghost written = { λ m. refl };
 }

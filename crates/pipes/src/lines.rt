@@ -3,7 +3,8 @@ ghost use Rattle.bounded_log.specs.Lines.{line_of};
 ghost use Rattle.pipes.specs.Lines.{drain_numbers};
 
 use crate::answers::Drain;
-use bounded_log::Line;
+use bounded_log::{Line, PrintedLine};
+use std::alloc::{AllocError, Global};
 use std::fmt;
 
 impl fmt::Display for Drain {
@@ -18,5 +19,11 @@ impl fmt::Display for Drain {
 impl Line for Drain {
     ghost numbers = { drain_numbers };
 
+    fn line(&self, heap: Global) -> Result<String, AllocError> {
+        self.to_string(heap)
+    }
+}
+
+impl PrintedLine for Drain {
     ghost written = { λ _. refl };
 }
