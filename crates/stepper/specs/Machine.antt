@@ -1,11 +1,14 @@
 -- The sequential machine: one instruction at a time.
-use Rattle.std.specs.Prelude.{ℕ, zero, suc, Bool, false, ◌||◌, List, [], ◌∷◌, replicate, Some, None, Ok, Err, Option, Result, slice_index, if◌then◌else◌}
+use Rattle.std.specs.Prelude.{ℕ, zero, suc, Bool, true, false, ◌||◌, List, [], ◌∷◌, replicate, Some, None, Ok, Err, Option, Result, slice_index, slice_set, if◌then◌else◌}
 use Rattle.std.specs.List.{slice_get}
 use Rattle.instruction.specs.declared.instructions.Instruction.{Instruction}
 use Rattle.instruction.specs.declared.instructions.Operand.{Operand}
 use Rattle.instruction.specs.declared.instructions.Operand.TheVariants.{Register, Literal}
 use Rattle.instruction.specs.Named.{register_number}
 use Rattle.instruction.specs.Operands.{operands_at}
+use Rattle.memory.specs.Words.{written}
+use Rattle.effect.specs.declared.actions.Action.{Action}
+use Rattle.effect.specs.declared.actions.Action.TheVariants.{Nothing, SetRegister, StoreWord, Trap, Halt}
 use Rattle.effect.specs.declared.actions.Effect.{Effect}
 use Rattle.effect.specs.declared.actions.Retirement.{Retirement}
 use Rattle.effect.specs.declared.actions.Sources.{Sources}
@@ -54,7 +57,25 @@ effect_at W S =
     effect_of W.table S.words W.handler (record { place = S.place; instruction = found_at W S })
     (sources_of S.registers (found_at W S))
 
--- the state after an effect
+-- the state after an action and a next place, by the cases of the action
+abbrev pub changed : Action → ℕ → State → State
+changed Nothing next S = record { place = next; registers = S.registers; words = S.words; halted = S.halted }
+changed (SetRegister register word) next S = record {
+  place = next;
+  registers = slice_set S.registers (register_number register) word;
+  words = S.words;
+  halted = S.halted;
+}
+changed (StoreWord address word) next S = record {
+  place = next;
+  registers = S.registers;
+  words = written S.words address word;
+  halted = S.halted;
+}
+changed (Trap word) next S = record { place = next; registers = slice_set S.registers 15 word; words = S.words; halted = S.halted }
+changed Halt next S = record { place = next; registers = S.registers; words = S.words; halted = true }
+
+-- the same state after an effect, part by part
 abbrev pub applied : Effect → State → State
 applied effect S = record {
   place = effect.next;
@@ -62,6 +83,10 @@ applied effect S = record {
   words = words_after effect.action S.words;
   halted = halts effect.action || S.halted;
 }
+
+-- the state after the next instruction, by the cases of what it does
+abbrev pub changed_at : World → State → State
+changed_at W S = changed (effect_at W S).action (effect_at W S).next S
 
 -- the state after one more step: as it was, once halted
 abbrev pub stepped : World → State → State

@@ -1,6 +1,6 @@
-ghost use Rattle.std.specs.Prelude.{◌≡◌};
-ghost use Rattle.stepper.specs.Machine.{applied, stepped, answer_of};
-ghost use Rattle.stepper.specs.View.{image_in, view, world_of, Ran};
+ghost use Rattle.std.specs.Prelude.{◌≡◌, false};
+ghost use Rattle.stepper.specs.Machine.{changed, applied, changed_at, stepped, answer_of};
+ghost use Rattle.stepper.specs.View.{image_in, halted_in, view, world_of, Ran};
 
 use crate::state::{StepFault, Stepper};
 use bounded_log::Log;
@@ -10,9 +10,12 @@ use unit::Unit;
 
 impl<'a> Stepper<'a> {
     /// Makes the changes of an effect, and goes on to the next place.
+    #[tactic(auto, using(crate::proofs::Applied::applied_parts))]
     fn apply<M: Memory>(&mut self, effect: Effect, memory: &mut M)
         ensures after { view self.new (M.Readable.words memory.new) ≡
             applied effect (view self.old (M.Readable.words memory.old)) }
+        ensures cases { view self.new (M.Readable.words memory.new) ≡
+            changed effect.action effect.next (view self.old (M.Readable.words memory.old)) }
         ensures image { image_in self.new ≡ image_in self.old }
         ensures kept { M.Memory.kept memory.new ≡ M.Memory.kept memory.old }
     {
@@ -32,6 +35,9 @@ impl<'a> Stepper<'a> {
             (view self.old (M.Readable.words memory.old)) }
         ensures after { view self.new (M.Readable.words memory.new) ≡
             stepped (world_of (U.Unit.table unit.now) (image_in self.old))
+            (view self.old (M.Readable.words memory.old)) }
+        ensures cases { halted_in self.old ≡ false → view self.new (M.Readable.words memory.new) ≡
+            changed_at (world_of (U.Unit.table unit.now) (image_in self.old))
             (view self.old (M.Readable.words memory.old)) }
         ensures image { image_in self.new ≡ image_in self.old }
         ensures kept { M.Memory.kept memory.new ≡ M.Memory.kept memory.old }
