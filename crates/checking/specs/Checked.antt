@@ -6,6 +6,7 @@ use Rattle.job.specs.Faults.{job_refusal}
 use Rattle.job.specs.Meaning.{pair_told, told}
 use Rattle.job.specs.Reading.{Contents, Core}
 use Rattle.instruction.specs.declared.instructions.Instruction.{Instruction}
+use Rattle.moves.specs.declared.kinds.Move.{Move}
 use Rattle.fit.specs.declared.pairs.Fitted.{Fitted}
 use Rattle.fit.specs.Fitting.{All, placed, heard, Unfit, fit_refusal}
 use Rattle.checking.specs.declared.answers.JobFigures.{JobFigures}
@@ -17,8 +18,12 @@ abbrev pub check_refusal : CheckFault → Refusal
 check_refusal (Job fault) = job_refusal fault
 check_refusal (Fit fault) = fit_refusal fault
 
+-- the figures of a job's three parts
+abbrev pub sizes : List Instruction → List ℕ → List Move → JobFigures
+sizes program sets moves = record { records = length program; stages = length sets; moves = length moves }
+
 abbrev pub figures_of : Contents → JobFigures
-figures_of job = record { records = length job.program; stages = length job.sets; moves = length job.moves }
+figures_of job = sizes job.program job.sets job.moves
 
 -- every instruction has a stage, and the unit knows every operation
 abbrev pub Fits : ℕ → List ℕ → List Instruction → Type 0
