@@ -1,7 +1,7 @@
 //! What stands in a pipeline, told so that it can be compared.
 // Told in short forms of its own: the tables name a packet on one line, and where a result or a
 // word has its register's number they show the number.
-use packets::{Packet, PacketState, PipeResult, Source, Stage, Standing};
+use packets::{Packet, PacketState, PipeResult, Source, Stage};
 
 /// A result: a register's number and its word, or the place where fetch goes on.
 #[derive(Clone, Copy, Debug, PartialEq)]
@@ -19,13 +19,13 @@ pub(crate) enum Work {
     Done,
 }
 
-pub(crate) const LIVE: Standing = Standing::Live;
+pub(crate) const LIVE: bool = true;
 
-pub(crate) const KILLED: Standing = Standing::Killed;
+pub(crate) const KILLED: bool = false;
 
 /// A packet: its place, whether it is live or killed, its work, and the words of its sources, as
 /// far as they have come.
-pub(crate) type ToldPacket = (u32, Standing, Work, [Option<u32>; 2]);
+pub(crate) type ToldPacket = (u32, bool, Work, [Option<u32>; 2]);
 
 fn told_result(found: PipeResult) -> News {
     match found {
@@ -57,7 +57,7 @@ fn told_packet(packet: &Packet) -> ToldPacket {
     let words = [told_source(packet.first), told_source(packet.second)];
     (
         packet.fetched.place,
-        packet.standing,
+        packet.is_live(),
         told_state(packet.state),
         words,
     )
